@@ -19,9 +19,11 @@ use ups_pdu::{Ae, Uid};
 mod counted;
 mod entries;
 mod histories;
+mod lasting;
 mod memory;
 mod plain;
 mod starting;
+mod twin;
 
 /// The steps that the tests create.
 const STEPS: [&str; 3] = ["1.2.3.1", "1.2.3.2", "1.2.3.3"];

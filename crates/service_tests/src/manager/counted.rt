@@ -190,7 +190,7 @@ fn row_is_so(rt: &impl AllocGlobal, manager: &mut Manager<Global>, row: &str) ->
 }
 
 /// Asks rows, one after the other.
-fn rows_are_so(
+pub(super) fn rows_are_so(
     rt: &impl AllocGlobal,
     manager: &mut Manager<Global>,
     rows: &str,

@@ -1,7 +1,8 @@
 //! Random histories of requests of all kinds: the answers of a manager, from its tables, are those of the plain
-//! programs, which walk the entries.
+//! programs, which walk the entries, and those of a twin, which lets requests leave memory.
 
 use super::plain::{Dice, KEYS, found_by_both, settings_of};
+use super::twin::{compare_replies, compare_twin, let_go_by_chance, set_aside};
 use fixtures::rows::{cut, number};
 use fixtures::title;
 use fixtures::words::message_of;
@@ -193,16 +194,115 @@ W2
 1709208060
 1709208090";
 
-/// The number of histories that a test makes.
-const HISTORIES: u32 = 200;
+/// The same for long histories: steps come and go, mostly while reports of them are pending, and the UIDs of removed ones
+/// are asked for again.
+const LASTING: &str = r"CALL
+create 1.2.3.|TENS||ONES| B |ROW|
+create 1.2.3.|TENS||ONES| B |ROW|
+create 1.2.3.|TENS||ONES| B |ROW|
+create 1.2.3.|TENS||ONES| B |ROW|
+1 1.2.3.|TENS||ONES| 00741000=IN_PROGRESS 00081195=|UID|
+1 1.2.3.|TENS||ONES| 00741000=IN_PROGRESS 00081195=|UID|
+1 1.2.3.|TENS||ONES| 00741000=IN_PROGRESS 00081195=|UID|
+1 1.2.3.|TENS||ONES| 00741000=COMPLETED 00081195=|UID|
+1 1.2.3.|TENS||ONES| 00741000=COMPLETED 00081195=|UID|
+1 1.2.3.|TENS||ONES| 00741000=COMPLETED 00081195=|UID|
+1 1.2.3.|TENS||ONES| 00741000=CANCELED 00081195=|UID|
+2 1.2.3.|TENS||ONES| 00741238=|REASON| 0074100C=DOE
+2 1.2.3.|TENS||ONES| 00741238=|REASON| 0074100C=DOE
+set 1.2.3.|TENS||ONES| |SET| 00081195=
+set 1.2.3.|TENS||ONES| |SET| 00081195=
+set 1.2.3.|TENS||ONES| |SET| 00081195=|UID|
+set 1.2.3.|TENS||ONES| |SET| 00081195=|UID|
+3 1.2.3.|TENS||ONES| 00741234=|RECEIVER| 00741230=|LOCK|
+3 global 00741234=|RECEIVER| 00741230=|LOCK|
+3 filtered 00741234=|RECEIVER| 00741230=|LOCK| |FILTER|
+4 1.2.3.|TENS||ONES| 00741234=|RECEIVER|
+4 global 00741234=|RECEIVER|
+5 global 00741234=|RECEIVER|
+ack |NUMBER|
+ack |NUMBER|
+ack |NUMBER|
+ack |NUMBER|
+sweep
+sweep
+# TENS
+1
+2
+# ONES
+0
+1
+2
+3
+4
+5
+6
+7
+8
+9
+# ROW
+00741202=READS 00741216=[00404050=20240229120100,00404051=20240229120200] 00741002=[00404052=20240229120300]
+00741202=REPROC 00741216=[00404050=20240229120100,00404051=20240229120200] 00741002=[00404052=20240229120300]
+# UID
+2.1
+2.1
+2.1
+2.2
+# REASON
+stop
+wrong_patient
+# SET
+00741202=READS
+00741202=REPROC
+00741002=[00741004=50]
+00741002=[00741004=100]
+00404025=[00080100=CT1]
+00404034=[00404036=HOSP]
+00404041=UNAVAILABLE
+00404041=READY
+# FILTER
+00741202=READS
+00404025=[00080100=CT1]
+# RECEIVER
+W1
+W2
+W3
+# LOCK
+TRUE
+FALSE
+FALSE
+FALSE
+# NUMBER
+1
+2
+4
+8
+16
+32
+64
+# TITLE
+W1
+W2
+W3
+P1
+# MOMENT
+1709208000
+1709208030
+1709208060
+1709208090
+1709208120
+1709208150";
 
 /// The number of counts: accepted requests, by their kinds, and then what is compared.
-const COUNTED: usize = 19;
+const COUNTED: usize = 21;
 
 /// How histories are made, and the least value of each count, one a line.
 struct Kind {
     words: &'static str,
+    histories: u32,
     calls: u32,
+    /// Whether the plain programs walk the entries of the histories too.
+    is_plain: bool,
     least: &'static str,
 }
 
@@ -214,10 +314,13 @@ struct Kind {
 /// it, so 326 claims come before a cancel request; a claimed step is finished with the right UID, for half of the rows,
 /// 36 times in each way. A canceled or finished step is due at a third of the moments, if neither of two peers locks
 /// it. In every second history a peer is subscribed to all steps before the middle, and in a quarter of those it
-/// acknowledges 1 or 2 events after it. Nine histories in ten have twenty entries, with three steps held.
+/// acknowledges 1 or 2 events after it. Nine histories in ten have twenty entries, with three steps held. One in four
+/// has 32 or more, so that its twin can set some aside; it does so in one of 14.
 const ANY: Kind = Kind {
     words: WORDS,
+    histories: 200,
     calls: 100,
+    is_plain: true,
     least: "\
 440 creations
 160 claims
@@ -237,7 +340,9 @@ const ANY: Kind = Kind {
 50 steps found
 180 steps watched
 100 events pending
-0 new subscriptions by a set",
+0 new subscriptions by a set
+6 times that requests were set aside
+3 reports of requests set aside",
 };
 
 /// Histories about filters. The least is half of what is expected, or less.
@@ -246,10 +351,13 @@ const ANY: Kind = Kind {
 /// is there for two calls in three, and one in 66 claims it. Half of the sets have the right UID for their step. Of
 /// those that are accepted one in eight makes a step match a filter; that filter is in force half of the time, for one
 /// of two watchers, half of which are subscribed to the step already. This is compared after each tenth entry, 400
-/// times, of which 120 are sets. There are no cancel requests, and nobody subscribes to all steps without a filter.
+/// times, of which 120 are sets. There are no cancel requests, and nobody subscribes to all steps without a filter. A
+/// history has 18 entries, too few for its twin to set any aside.
 const FILTERED: Kind = Kind {
     words: FILTERING,
+    histories: 200,
     calls: 40,
+    is_plain: true,
     least: "\
 250 creations
 60 claims
@@ -269,7 +377,45 @@ const FILTERED: Kind = Kind {
 50 steps found
 150 steps watched
 80 events pending
-3 new subscriptions by a set",
+3 new subscriptions by a set
+0 times that requests were set aside
+0 reports of requests set aside",
+};
+
+/// Long histories. The least is half of what is expected, or less.
+///
+/// In 40 histories of 250 calls each line of the calls comes up 345 times. One call in 145 creates a given step, so 16.4
+/// of the 20 are created in a history, and a call finds its step held every second time. The UID is that of the claim
+/// five times in eight. Two sweeps of a history remove steps. Three titles in four are those of watchers, of whose
+/// acknowledgements one in four is accepted. A history has 90 entries, of which its twin sets some aside 1.6 times; at
+/// each tenth entry after that a watcher has four pending reports of them.
+const LONG: Kind = Kind {
+    words: LASTING,
+    histories: 40,
+    calls: 250,
+    is_plain: false,
+    least: "\
+330 creations
+130 claims
+30 completions
+10 discontinuations
+130 cancel requests
+110 sets
+80 subscriptions to a step
+170 global subscriptions
+170 filtered subscriptions
+80 ends at a step
+170 ends everywhere
+160 suspensions
+120 acknowledgements
+40 sweeps
+0 steps held
+0 steps found
+0 steps watched
+0 events pending
+0 new subscriptions by a set
+30 times that requests were set aside
+1000 reports of requests set aside",
 };
 
 /// A word, and the lines that it may stand for.
@@ -332,8 +478,8 @@ impl<'a> Chance<'a> {
         }
     }
 
-    /// Returns a random call.
-    fn any_call(&mut self, rt: &impl AllocGlobal) -> Result<String, Fail> {
+    /// Returns what a random call asks.
+    fn any_text(&mut self, rt: &impl AllocGlobal) -> Result<String, Fail> {
         let call = self.any("CALL")?;
         let mut text = String::new(rt.alloc());
         for (place, part) in call.split('|').enumerate() {
@@ -369,32 +515,53 @@ fn any_title(chance: &mut Chance) -> Result<Ae, Fail> {
     title(chance.any("TITLE")?)
 }
 
-/// Returns a random request.
-fn any_request(rt: &impl AllocGlobal, chance: &mut Chance) -> Result<Request<Global>, Fail> {
-    let text = chance.any_call(rt)?;
-    request_of(rt.alloc(), text.as_str())
+/// A call: who asks what, and when.
+#[derive(Drop)]
+struct Call {
+    ae: Ae,
+    moment: u64,
+    text: String,
 }
 
-/// Makes a random call, and returns whether it was entered.
+/// Returns a random call.
+fn any_call(rt: &impl AllocGlobal, chance: &mut Chance) -> Result<Call, Fail> {
+    let moment = any_moment(chance)?;
+    let ae = any_title(chance)?;
+    let text = chance.any_text(rt)?;
+    Ok(Call { ae, moment, text })
+}
+
+/// Makes a call, and returns the reply.
+fn reply_to(
+    rt: &impl AllocGlobal,
+    manager: &mut Manager<Global>,
+    call: &Call,
+) -> Result<Reply<Global>, Fail> {
+    if call.moment > MAX_MOMENT {
+        return Err("no moment".into());
+    }
+    let request = request_of(rt.alloc(), call.text.as_str())?;
+    Ok(manager.submit(Entry {
+        caller: 0,
+        ae: call.ae,
+        moment: call.moment,
+        request,
+    }))
+}
+
+/// Makes a random call to a manager and its twin, and returns whether it was entered.
 fn is_entered(
     rt: &impl AllocGlobal,
     chance: &mut Chance,
     manager: &mut Manager<Global>,
+    twin: &mut Manager<Global>,
 ) -> Result<bool, Fail> {
-    let moment = any_moment(chance)?;
-    if moment > MAX_MOMENT {
-        return Err("no moment".into());
-    }
-    let ae = any_title(chance)?;
-    let request = any_request(rt, chance)?;
-    let entries = manager.history().len();
-    manager.submit(Entry {
-        caller: 0,
-        ae,
-        moment,
-        request,
-    });
-    Ok(manager.history().len() > entries)
+    let call = any_call(rt, chance)?;
+    let entries = manager.entries();
+    let reply = reply_to(rt, manager, &call)?;
+    let other = reply_to(rt, twin, &call)?;
+    compare_replies(manager, twin, &reply, &other)?;
+    Ok(manager.entries() > entries)
 }
 
 /// Returns the place of a request's kind among the counts.
@@ -487,7 +654,7 @@ fn is_same_subscription(one: &Watched, other: &Watched) -> bool {
 }
 
 /// Returns whether two lists have the same subscriptions.
-fn are_same_subscriptions(some: &[Watched], others: &[Watched]) -> bool {
+pub(super) fn are_same_subscriptions(some: &[Watched], others: &[Watched]) -> bool {
     let mut pairs = some.iter().zip(others.iter());
     some.len() == others.len() && pairs.all(|(one, other)| is_same_subscription(one, other))
 }
@@ -530,7 +697,7 @@ fn begun_by_a_set(manager: &Manager<Global>, before: usize) -> Result<usize, Fai
     Ok(after.checked_sub(before).ok_or("a subscription ended")?)
 }
 
-fn is_same_event(one: &Event, other: &Event) -> bool {
+pub(super) fn is_same_event(one: &Event, other: &Event) -> bool {
     one.number == other.number
         && one.entry == other.entry
         && one.kind == other.kind
@@ -619,27 +786,51 @@ fn compare_all(
     Ok(())
 }
 
-/// Makes a history, and compares the answers after each tenth entry.
+/// Makes a random call to a manager and its twin. If it is entered, the twin may let go of requests, and the answers are
+/// compared after each tenth entry.
+fn compare_call(
+    rt: &impl AllocGlobal,
+    kind: &Kind,
+    chance: &mut Chance,
+    counts: &mut [u64; COUNTED],
+    manager: &mut Manager<Global>,
+    twin: &mut Manager<Global>,
+) -> Result<(), Fail> {
+    let is_tenth = manager.entries() % 10 == 9;
+    let before = if is_tenth { subscriptions(manager)? } else { 0 };
+    if !is_entered(rt, chance, manager, twin)? {
+        return Ok(());
+    }
+    let is_less = let_go_by_chance(&mut chance.dice, twin);
+    add(counts, 19, usize::from(is_less));
+    if is_tenth && kind.is_plain {
+        compare_all(rt, chance, counts, manager, before)?;
+    }
+    if is_tenth && set_aside(twin) > 0 {
+        add(counts, 20, compare_twin(rt, manager, twin)?);
+    }
+    Ok(())
+}
+
+/// Makes a history, and counts what is compared.
 fn compare_history(
     rt: &impl AllocGlobal,
     kind: &Kind,
     chance: &mut Chance,
     counts: &mut [u64; COUNTED],
     manager: &mut Manager<Global>,
+    twin: &mut Manager<Global>,
 ) -> Result<(), Fail> {
     for _ in 0..kind.calls {
-        let before = subscriptions(manager)?;
-        if is_entered(rt, chance, manager)? && manager.history().len() % 10 == 0 {
-            compare_all(rt, chance, counts, manager, before)?;
-        }
+        compare_call(rt, kind, chance, counts, manager, twin)?;
     }
     count_entries(counts, manager.history());
     Ok(())
 }
 
-/// Returns a manager with three peers, two of which may lock steps.
-pub(super) fn a_manager<A: Allocator + Copy>(alloc: A) -> Result<Manager<A>, Fail> {
-    let peers = [
+/// Returns three peers, two of which may lock steps.
+fn three_peers() -> Result<[Peer; 3], Fail> {
+    Ok([
         Peer {
             ae: title("W1")?,
             lock: true,
@@ -652,8 +843,29 @@ pub(super) fn a_manager<A: Allocator + Copy>(alloc: A) -> Result<Manager<A>, Fai
             ae: title("W3")?,
             lock: false,
         },
-    ];
-    Ok(Manager::new(alloc, &peers, 60, 60, 1_000)?)
+    ])
+}
+
+/// Returns a manager with three peers.
+pub(super) fn a_manager<A: Allocator + Copy>(alloc: A) -> Result<Manager<A>, Fail> {
+    Ok(Manager::new(alloc, &three_peers()?, 60, 60, 1_000)?)
+}
+
+/// Returns a manager with the same peers whose history has no end.
+pub(super) fn a_lasting_manager<A: Allocator + Copy>(alloc: A) -> Result<Manager<A>, Fail> {
+    Ok(Manager::lasting(alloc, &three_peers()?, 60, 60)?)
+}
+
+/// The same with a new twin.
+fn compare_history_beside(
+    rt: &impl AllocGlobal,
+    kind: &Kind,
+    chance: &mut Chance,
+    counts: &mut [u64; COUNTED],
+    manager: &mut Manager<Global>,
+) -> Result<(), Fail> {
+    let mut twin = a_lasting_manager(rt.alloc())?;
+    compare_history(rt, kind, chance, counts, manager, &mut twin)
 }
 
 /// The same with a new manager.
@@ -664,7 +876,7 @@ fn compare_new_history(
     counts: &mut [u64; COUNTED],
 ) -> Result<(), Fail> {
     let mut manager = a_manager(rt.alloc())?;
-    compare_history(rt, kind, chance, counts, &mut manager)
+    compare_history_beside(rt, kind, chance, counts, &mut manager)
 }
 
 /// Makes random histories of a kind, compares the answers about each, and returns the counts.
@@ -674,7 +886,7 @@ fn counts_by(
     chance: &mut Chance,
 ) -> Result<[u64; COUNTED], Fail> {
     let mut counts = [0; COUNTED];
-    for _ in 0..HISTORIES {
+    for _ in 0..kind.histories {
         compare_new_history(rt, kind, chance, &mut counts)?;
     }
     Ok(counts)
@@ -713,6 +925,11 @@ fn any_are_told<R: Abort + AllocGlobal>(rt: &R, state: u64) -> Result<(), Fail> 
 /// Makes histories about filters.
 fn filters_are_told<R: Abort + AllocGlobal>(rt: &R, state: u64) -> Result<(), Fail> {
     histories_are_told(rt, &FILTERED, state)
+}
+
+/// Makes long histories.
+fn long_are_told<R: Abort + AllocGlobal>(rt: &R, state: u64) -> Result<(), Fail> {
+    histories_are_told(rt, &LONG, state)
 }
 
 #[test]
@@ -763,4 +980,29 @@ fn filters_of_a_fourth_chance_are_told_plainly(rt: HostRuntime) -> Result<(), Fa
 #[test]
 fn filters_of_a_fifth_chance_are_told_plainly(rt: HostRuntime) -> Result<(), Fail> {
     filters_are_told(&rt, 5)
+}
+
+#[test]
+fn long_histories_of_a_first_chance_are_told_by_a_twin(rt: HostRuntime) -> Result<(), Fail> {
+    long_are_told(&rt, 1)
+}
+
+#[test]
+fn long_histories_of_a_second_chance_are_told_by_a_twin(rt: HostRuntime) -> Result<(), Fail> {
+    long_are_told(&rt, 2)
+}
+
+#[test]
+fn long_histories_of_a_third_chance_are_told_by_a_twin(rt: HostRuntime) -> Result<(), Fail> {
+    long_are_told(&rt, 3)
+}
+
+#[test]
+fn long_histories_of_a_fourth_chance_are_told_by_a_twin(rt: HostRuntime) -> Result<(), Fail> {
+    long_are_told(&rt, 4)
+}
+
+#[test]
+fn long_histories_of_a_fifth_chance_are_told_by_a_twin(rt: HostRuntime) -> Result<(), Fail> {
+    long_are_told(&rt, 5)
 }

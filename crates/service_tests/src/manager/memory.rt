@@ -1,7 +1,10 @@
 use super::counted::counts;
-use super::histories::a_manager;
-use super::{answer_to, ask_of, keys_of, line_of, picture, reply_to, text_of, told};
-use fixtures::rows::{cut, cut_twice, number};
+use super::histories::{a_lasting_manager, a_manager};
+use super::lasting::{MANY, PASSING, put_reports};
+use super::{
+    STEPS, answer_to, ask_of, keys_of, line_of, picture, reply_to, step_of, text_of, told,
+};
+use fixtures::rows::{check, cut, cut_twice, number};
 use fixtures::{Refusing, title};
 use std::alloc::{Allocator, Global};
 use std::process::Abort;
@@ -54,6 +57,12 @@ const WATCHING: &str = "\
 0 W3 1709208120 words 1.2.3.1 - -|5 global 00741234=W3 -> 0 0213 0000
 0 W2 1709208120 words 1.2.3.1 - -|4 global 00741234=W2 -> 0 0213 0000
 0 SCHED1 1709208120 words 1.2.3.1 - -|sweep -> 0 0213 0000+1";
+
+/// Acknowledgements of all reports of these.
+const ACKNOWLEDGED: &str = "\
+0 W1 1709208120 words 1.2.3.1 - -|ack 4 -> 0 0213 0000
+0 W2 1709208120 words 1.2.3.1 - -|ack 8 -> 0 0213 0000
+0 W3 1709208120 words 1.2.3.1 - -|ack 8 -> 0 0213 0000";
 
 /// Adds how a peer is subscribed to steps, one a line.
 fn put_watches<A: Allocator + Copy>(
@@ -409,4 +418,112 @@ fn a_creation_alone_is_refused_where_it_would_not_leave_the_reserve(
 ) -> Result<(), Fail> {
     rows_are_so_confined_anew(&rt, ROWS)?;
     rows_are_so_confined_anew(&rt, WATCHING)
+}
+
+/// Returns all that a manager tells but its history: its steps, and for each watcher its subscriptions and reports.
+fn told_by<A: Allocator + Copy>(
+    rt: &impl AllocGlobal,
+    manager: &Manager<A>,
+) -> Result<String, Fail> {
+    let mut text = String::new(rt.alloc());
+    for step in STEPS {
+        text.push_str(step_of(rt, manager, step)?.as_str())?;
+    }
+    for name in ["W1", "W2", "W3"] {
+        let ae = title(name)?;
+        put_watches(&mut text, manager, ae)?;
+        put_reports(rt, &mut text, manager, ae)?;
+    }
+    Ok(text)
+}
+
+/// Lets requests leave memory with each growth refused in turn, until none is, and returns how many were refused. Each
+/// time the manager tells the same as before.
+fn growths_of_leaving<'a>(
+    rt: &impl AllocGlobal,
+    heap: &'a Refusing<Global>,
+    manager: &mut Manager<&'a Refusing<Global>>,
+) -> Result<u64, Fail> {
+    let before = told_by(rt, manager)?;
+    let entries = manager.entries();
+    for growth in 1..GROWTHS {
+        arm(heap, Lack::Growth(growth));
+        manager.let_go(entries);
+        let is_armed = heap.is_armed();
+        disarm(heap);
+        check(
+            "something is lost",
+            told_by(rt, manager)?.as_str() == before.as_str(),
+        )?;
+        if is_armed {
+            return Ok(growth - 1);
+        }
+    }
+    Err("a growth is refused each time".into())
+}
+
+/// Asks a manager rows, one after the other, and refuses nothing.
+fn ask_rows<'a>(
+    rt: &impl AllocGlobal,
+    heap: &'a Refusing<Global>,
+    manager: &mut Manager<&'a Refusing<Global>>,
+    rows: &str,
+) -> Result<(), Fail> {
+    for row in rows.lines() {
+        let due = due_of(row)?;
+        let found = lacking(rt, heap, manager, due.line, false, Lack::Growth(0))?;
+        check(row, found.as_str() == due.answered)?;
+    }
+    Ok(())
+}
+
+/// Makes many requests that no report is of.
+fn pass<'a>(
+    rt: &impl AllocGlobal,
+    heap: &'a Refusing<Global>,
+    manager: &mut Manager<&'a Refusing<Global>>,
+) -> Result<(), Fail> {
+    for _ in 0..MANY {
+        lacking(rt, heap, manager, PASSING, false, Lack::Growth(0))?;
+    }
+    Ok(())
+}
+
+/// Asks a manager the rows about watchers and further rows, and returns how many growths it makes as all requests leave
+/// the recent ones.
+fn growths_behind<'a>(
+    rt: &impl AllocGlobal,
+    heap: &'a Refusing<Global>,
+    manager: &mut Manager<&'a Refusing<Global>>,
+    rows: &str,
+) -> Result<u64, Fail> {
+    ask_rows(rt, heap, manager, WATCHING)?;
+    ask_rows(rt, heap, manager, rows)?;
+    pass(rt, heap, manager)?;
+    let growths = growths_of_leaving(rt, heap, manager)?;
+    check("a request has not left", manager.history().is_empty())?;
+    Ok(growths)
+}
+
+/// The same with a new manager.
+fn growths_behind_anew(rt: &impl AllocGlobal, rows: &str) -> Result<u64, Fail> {
+    let heap = Refusing::new(rt.alloc());
+    let mut manager = a_lasting_manager(&heap)?;
+    growths_behind(rt, &heap, &mut manager, rows)
+}
+
+#[test]
+fn nothing_is_lost_where_a_growth_is_refused_as_requests_leave(
+    rt: HostRuntime,
+) -> Result<(), Fail> {
+    assert!(rt; growths_behind_anew(&rt, "")? > 1);
+    Ok(())
+}
+
+#[test]
+fn no_memory_is_taken_for_requests_whose_reports_are_acknowledged(
+    rt: HostRuntime,
+) -> Result<(), Fail> {
+    assert!(rt; growths_behind_anew(&rt, ACKNOWLEDGED)? <= 1);
+    Ok(())
 }

@@ -86,15 +86,19 @@ fn any_line(rt: &impl AllocGlobal, dice: &mut Dice, moment: u64) -> Result<Strin
     Ok(format!(in rt.alloc(); "0 SCHED1 {moment} {verb} 1.2.3.{step} {state} {uid}|{sent}")?)
 }
 
+/// Encodes a data set.
+pub(super) fn spelled_set(rt: &impl AllocGlobal, set: &DataSet<Global>) -> Result<Vec<u8>, Fail> {
+    if set.size() >= 0x1_0000_0000 {
+        return Err("a set of 4 GB or more".into());
+    }
+    Ok(write_set(rt.alloc(), TransferSyntax::Explicit, set)?)
+}
+
 /// Encodes data sets, one after another.
 fn spelled(rt: &impl AllocGlobal, sets: &[DataSet<Global>]) -> Result<Vec<u8>, Fail> {
     let mut bytes = Vec::new(rt.alloc());
     for set in sets {
-        if set.size() >= 0x1_0000_0000 {
-            return Err("a set of 4 GB or more".into());
-        }
-        let spelled = write_set(rt.alloc(), TransferSyntax::Explicit, set)?;
-        bytes.extend_from_slice(spelled.as_slice())?;
+        bytes.extend_from_slice(spelled_set(rt, set)?.as_slice())?;
     }
     Ok(bytes)
 }

@@ -4,8 +4,9 @@ use std::test::Fail;
 use ups_life::Peer;
 use ups_manager::*;
 
-/// What is asked, and the outcome: the titles of the peers, the offset of the local time, the limit, and the number of
-/// the growth that is refused; the fault, or the settings of the manager, and whether that growth is still to come.
+/// What is asked, and the outcome: the titles of the peers, the offset of the local time, the limit, or that the manager
+/// is lasting, and the number of the growth that is refused; the fault, or the settings of the manager, and whether that
+/// growth is still to come.
 const ROWS: &str = "\
 # A manager has the settings that it was given, and no history
 WATCH1,WATCH2 -300 10 0 -> keep 60 offset -300 limit 10 entries 0 peers WATCH1 WATCH2 false
@@ -48,7 +49,17 @@ WATCH1,WATCH1 0 10 1 -> TwicePeer true
 WATCH1,WATCH2 0 10 1 -> Memory false
 WATCH1,WATCH2 0 10 2 -> Memory false
 WATCH1,WATCH2 0 10 3 -> Memory false
-WATCH1,WATCH2 0 10 4 -> keep 60 offset 0 limit 10 entries 0 peers WATCH1 WATCH2 true";
+WATCH1,WATCH2 0 10 4 -> keep 60 offset 0 limit 10 entries 0 peers WATCH1 WATCH2 true
+# A lasting manager has a limit that no history reaches, and its other settings are allowed where those of any manager are
+WATCH1,WATCH2 -300 lasting 0 -> keep 60 offset -300 limit 4611686018427387904 entries 0 peers WATCH1 WATCH2 false
+WATCH1,WATCH2,WATCH1 0 lasting 1 -> TwicePeer true
+WATCH1,WATCH1 900 lasting 1 -> TwicePeer true
+ -721 lasting 1 -> BadOffset true
+ -720 lasting 0 -> keep 60 offset -720 limit 4611686018427387904 entries 0 peers false
+ 840 lasting 0 -> keep 60 offset 840 limit 4611686018427387904 entries 0 peers false
+ 841 lasting 1 -> BadOffset true
+WATCH1,WATCH2 0 lasting 3 -> Memory false
+WATCH1,WATCH2 0 lasting 4 -> keep 60 offset 0 limit 4611686018427387904 entries 0 peers WATCH1 WATCH2 true";
 
 /// Returns the peers with these titles, none of which may lock.
 fn peers_of(alloc: Global, titles: &str) -> Result<Vec<Peer>, Fail> {
@@ -68,7 +79,7 @@ fn settings_of<A: Allocator + Copy>(
     manager: &Manager<A>,
 ) -> Result<String, Fail> {
     let (keep, offset, limit) = (manager.keep(), manager.offset(), manager.limit());
-    let entries = manager.history().len();
+    let entries = manager.entries();
     let mut text = format!(in rt.alloc();
         "keep {keep} offset {offset} limit {limit} entries {entries} peers"
     )?;
@@ -79,21 +90,33 @@ fn settings_of<A: Allocator + Copy>(
     Ok(text)
 }
 
-/// Starts a manager, and returns the fault or its settings.
+/// Starts a manager with a limit, or a lasting one, and returns the fault or its settings.
 fn started<A: Allocator + Copy>(
     rt: &impl AllocGlobal,
     alloc: A,
     peers: &[Peer],
     offset: i16,
-    limit: u64,
+    limit: Option<u64>,
 ) -> Result<String, Fail> {
     if peers.len() > 1000 {
         return Err("too many peers".into());
     }
-    match Manager::new(alloc, peers, 60, offset, limit) {
+    let started = match limit {
+        Some(limit) => Manager::new(alloc, peers, 60, offset, limit),
+        None => Manager::lasting(alloc, peers, 60, offset),
+    };
+    match started {
         Ok(manager) => settings_of(rt, &manager),
         Err(fault) => Ok(format!(in rt.alloc(); "{fault:?}")?),
     }
+}
+
+/// Returns the limit that a word names, or None if it is that of a lasting manager.
+fn limit_of(word: &str) -> Result<Option<u64>, Fail> {
+    if word == "lasting" {
+        return Ok(None);
+    }
+    Ok(Some(word.parse::<u64>()?))
 }
 
 /// Returns the outcome of what a row asks.
@@ -101,7 +124,7 @@ fn outcome_of(rt: &impl AllocGlobal, asked: &str) -> Result<String, Fail> {
     let mut words = asked.split(' ');
     let titles = words.next().ok_or("titles")?;
     let offset = words.next().ok_or("an offset")?.parse::<i16>()?;
-    let limit = words.next().ok_or("a limit")?.parse::<u64>()?;
+    let limit = limit_of(words.next().ok_or("a limit")?)?;
     let growth = words.next().ok_or("a growth")?.parse::<u64>()?;
     let peers = peers_of(rt.alloc(), titles)?;
     let heap = Refusing::new(rt.alloc());
