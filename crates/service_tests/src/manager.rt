@@ -24,6 +24,7 @@ mod memory;
 mod plain;
 mod starting;
 mod twin;
+mod words;
 
 /// The steps that the tests create.
 const STEPS: [&str; 3] = ["1.2.3.1", "1.2.3.2", "1.2.3.3"];
