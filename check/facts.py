@@ -58,6 +58,7 @@ CONSTANTS = {
     "longest_pdu": ("ups_pdu", "MAX_DATA_LENGTH"), "longest_message": ("ups_assoc", "LONGEST_MESSAGE"),
     "max_depth": ("ups_dataset", "MAX_DEPTH"), "max_row_bytes": ("ups_life", "MAX_ROW_BYTES"),
     "max_history": ("ups_life", "MAX_HISTORY"), "max_peers": ("ups_life", "MAX_PEERS"),
+    "peers_file": ("upsd", "MAX_SIZE"),
     "min_offset": ("ups_life", "MIN_OFFSET"), "max_offset": ("ups_life", "MAX_OFFSET"),
 }
 OPTIONS = {"keep": "keep", "offset": "offset", "associations": "workers", "idle": "idle", "timeout": "timeout",

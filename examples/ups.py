@@ -17,6 +17,7 @@
     ups work --worklist READS -- ./reprocess.sh {}
     ups status
     ups health
+    ups audit /var/log/upsd.log
     ups board --port 8080 --ae BOARD --listen 11114
 
 Each command has its own --help with an example. A key or an attribute (-k) is a keyword, or the tag, with `=` and a value; one
@@ -38,6 +39,7 @@ monitoring plugin.
 from __future__ import annotations
 
 import argparse
+import base64
 import collections
 import contextlib
 import copy
@@ -65,6 +67,7 @@ import time
 import urllib.parse
 import uuid
 import warnings
+import xml.etree.ElementTree as ElementTree
 from html import escape
 from typing import Any, Callable, Iterable, Iterator, NamedTuple, Optional
 
@@ -1651,6 +1654,162 @@ def announce(asked: argparse.Namespace) -> int:
     return worst
 
 
+# the audit lines of a server's log, as audit messages (PS3.15 section A.5)
+
+# a line as `upsd` writes it, or as `journalctl -o short-iso` shows it
+AUDITED = re.compile(r"(\d{4}-\d\d-\d\dT[\d:]{8}(?:\.\d+)?)(Z|[+-]\d\d:?\d\d) (?:(\S+) \S+: )?\[INFO  upsd\] audit: (.*)", re.ASCII)
+DONE = re.compile(r"([A-Z][a-z]+) #\d+ ([ -~]{1,16}) (\[[0-9A-Fa-f:.%]+\]|[0-9.]+):\d+, ([0-9.]+|-), ([0-9A-F]{4})(?:, (.*))?")
+SWEPT = re.compile(r"Sweep [ -~]{1,16}, (\d+) steps")
+TAGGED = re.compile(r"\(([0-9A-F]{4}),([0-9A-F]{4})\)")
+OWN = "99UPSD"  # the coding scheme of what DICOM has no code for
+# the action code of each operation (PS3.15 section A.5.1), and its name
+OPERATIONS = {
+    "Create": ("C", "N-CREATE"), "Change": ("U", "Change UPS State"), "Cancel": ("U", "Request UPS Cancel"), "Set": ("U", "N-SET"),
+    "Subscribe": ("U", "Subscribe to Receive UPS Event Reports"), "Unsubscribe": ("U", "Unsubscribe from Receiving UPS Event Reports"),
+    "Suspend": ("U", "Suspend Global Subscription"), "Get": ("R", "N-GET"), "Find": ("E", "C-FIND"), "Sweep": ("D", "Sweep"),
+}
+
+
+class Audited(NamedTuple):
+    """An audit line: when, on which machine, which operation, who from where, on which instance, the status, and what was done."""
+
+    moment: str
+    machine: Optional[str]
+    name: str
+    title: Optional[str]
+    address: str
+    instance: str
+    status: int
+    done: str
+
+
+def audited_of(line: str) -> Optional[Audited]:
+    """Reads a line of a log; None if it is no audit line. A title never hides the fields behind it: the longest one counts."""
+    found = AUDITED.fullmatch(line)
+    if not found:
+        return None
+    time_of_day, offset, machine, said = found.groups()
+    moment = time_of_day + (offset if offset == "Z" or ":" in offset else f"{offset[:3]}:{offset[3:]}")
+    if swept := SWEPT.fullmatch(said):
+        return Audited(moment, machine, "Sweep", None, "", "-", 0, swept[1])
+    done = DONE.fullmatch(said)
+    if not done or done[1] not in OPERATIONS:
+        raise Refused(f"this audit line can't be read: {line}")
+    name, caller, address, instance, status, more = done.groups()
+    return Audited(moment, machine, name, caller, address.strip("[]"), instance, int(status, 16), more or "")
+
+
+def add_code(to: ElementTree.Element, name: str, code: str, scheme: str, meaning: str) -> None:
+    ElementTree.SubElement(to, name, {"csd-code": code, "codeSystemName": scheme, "originalText": meaning})
+
+
+def add_event(to: ElementTree.Element, line: Audited) -> None:
+    action, name = OPERATIONS[line.name]
+    outcome = "0" if line.status in (0x0000, 0x0001) else "4"  # a minor failure: done without the deletion lock
+    event = ElementTree.SubElement(to, "EventIdentification", {
+        "EventActionCode": action, "EventDateTime": line.moment, "EventOutcomeIndicator": outcome})
+    code, meaning = ("110112", "Query") if line.name == "Find" else ("110103", "DICOM Instances Accessed")
+    add_code(event, "EventID", code, "DCM", meaning)
+    add_code(event, "EventTypeCode", line.name, OWN, name)
+    if line.status:
+        ElementTree.SubElement(event, "EventOutcomeDescription").text = told(line.status)
+
+
+def add_participant(to: ElementTree.Element, entity: str, requests: bool, role: tuple[str, str], place: tuple[str, str]) -> None:
+    """Adds an application entity; `place` is its address and the code of the kind of that."""
+    address, kind = place
+    where = {"NetworkAccessPointID": address, "NetworkAccessPointTypeCode": kind} if address else {}
+    it = ElementTree.SubElement(to, "ActiveParticipant", {"UserID": entity, "UserIsRequestor": str(requests).lower(), **where})
+    add_code(it, "RoleIDCode", role[0], "DCM", role[1])
+
+
+def details_of(line: Audited) -> list[tuple[str, str]]:
+    """Returns what a line says of the change, with a name for each part."""
+    words, _, receiver = line.done.partition("for ")
+    if line.name == "Change":
+        before, _, after = line.done.partition(" to ")
+        return [("Former Procedure Step State", before), ("Procedure Step State", after)]
+    if line.name == "Cancel":
+        return [("Requested Procedure Step State", line.done.removeprefix("asks for "))]
+    if line.name == "Set":
+        return [("Attributes", line.done.removeprefix("sets").strip())]
+    if line.name == "Subscribe":
+        return [("Receiving AE", receiver), ("Deletion Lock", "TRUE" if words else "FALSE")]
+    if line.name in ("Unsubscribe", "Suspend"):
+        return [("Receiving AE", receiver)]
+    return [("Answers", line.done.partition(" ")[0])] if line.name == "Find" else []
+
+
+def in_base64(content: bytes) -> str:
+    return base64.b64encode(content).decode()
+
+
+def add_query(to: ElementTree.Element, line: Audited) -> None:
+    """Adds the keys of a query as a data set, with the tags of a line and without values, which the line lacks."""
+    keys = b"".join(struct.pack("<HHI", int(group, 16), int(number, 16), 0) for group, number in TAGGED.findall(line.done))
+    ElementTree.SubElement(to, "ParticipantObjectQuery").text = in_base64(keys)
+    add_details(to, [("TransferSyntax", IMPLICIT), *details_of(line)])
+    more = line.done.partition(" and ")[2]
+    ElementTree.SubElement(to, "ParticipantObjectDescription").text = f"keys without values{more and f', and {more}'}"
+
+
+def add_details(to: ElementTree.Element, details: list[tuple[str, str]]) -> None:
+    for kind, value in details:
+        ElementTree.SubElement(to, "ParticipantObjectDetail", {"type": kind, "value": in_base64(value.encode())})
+
+
+def add_object(to: ElementTree.Element, line: Audited) -> None:
+    """Adds the step, or of a query and a sweep the class of the steps."""
+    is_class = line.instance == "-"
+    it = ElementTree.SubElement(to, "ParticipantObjectIdentification", {
+        "ParticipantObjectID": PUSH if is_class else line.instance,
+        "ParticipantObjectTypeCode": "2", "ParticipantObjectTypeCodeRole": "3"})  # a system object, a report
+    if is_class:
+        add_code(it, "ParticipantObjectIDTypeCode", "110181", "DCM", "SOP Class UID")
+    else:
+        add_code(it, "ParticipantObjectIDTypeCode", "SOP Instance UID", OWN, "SOP Instance UID")
+    if line.name == "Find":
+        add_query(it, line)
+        return
+    ElementTree.SubElement(it, "ParticipantObjectName").text = "Unified Procedure Step"
+    add_details(it, details_of(line))
+    steps = ElementTree.SubElement(it, "SOPClass", {"UID": PUSH, "NumberOfInstances": line.done if is_class else "1"})
+    if not is_class:
+        ElementTree.SubElement(steps, "Instance", {"UID": line.instance})
+
+
+def audit_message(line: Audited, server: str) -> str:
+    """Returns an audit line of a server as an audit message in one line, of the event Query, or else DICOM Instances Accessed."""
+    message = ElementTree.Element("AuditMessage")
+    add_event(message, line)
+    if line.title is not None:
+        add_participant(message, line.title, True, ("110153", "Source Role ID"), (line.address, "2"))
+    add_participant(message, server, line.title is None, ("110152", "Destination Role ID"), (line.machine or "", "1"))
+    source = ElementTree.SubElement(message, "AuditSourceIdentification", {"AuditSourceID": server})
+    ElementTree.SubElement(source, "AuditSourceTypeCode", {"csd-code": "4"})  # an application server
+    add_object(message, line)
+    return ElementTree.tostring(message, encoding="unicode")
+
+
+def audit(asked: argparse.Namespace) -> int:
+    """Prints the audit messages of a log, each as soon as its line is read; returns 1 if an audit line can't be read."""
+    worst = 0
+    with contextlib.ExitStack() as opened:
+        log = sys.stdin
+        if asked.file != "-":
+            log = opened.enter_context(open(asked.file, encoding="utf-8", errors="backslashreplace"))
+        for line in log:
+            try:
+                found = audited_of(line.rstrip("\n"))
+            except Refused as fault:
+                print(f"{NAME}: {fault}", file=sys.stderr, flush=True)
+                worst = 1
+            else:
+                if found:
+                    print(audit_message(found, asked.called), flush=True)
+    return worst
+
+
 # the board: the worklist, next to what the event reports alone say
 
 FINAL = STATES[2:]
@@ -2585,6 +2744,9 @@ def add_questions(to: Commands) -> None:
     it.add_argument("--set", action="store_true", help="judges it as an N-SET instead, whatever the state of the step")
     it.add_argument("--final", choices=["COMPLETED", "CANCELED"],
                     help="judges whether a step has what this final state asks for instead")
+    it = to.add("audit", audit, "prints the audit lines of a server's log as audit messages (PS3.15 A.5), each a line of XML",
+                "audit /var/log/upsd.log")
+    it.add_argument("file", metavar="FILE", help="the log, with its times, or what journalctl -o short-iso prints (- for standard input)")
 
 
 def add_status(to: Commands) -> None:
@@ -2741,7 +2903,7 @@ def asked_of_server(asked: argparse.Namespace) -> int:
     return 0 if is_done(status) else 1
 
 
-ALONE = (watch, announce, check, board, export, import_steps, work, server_health)  # these open associations themselves, if any
+ALONE = (watch, announce, check, audit, board, export, import_steps, work, server_health)  # these open associations themselves, if any
 
 
 def main() -> int:

@@ -11,16 +11,16 @@ takes its reports as it should, and one more step is pushed:
     ends       it ends the connection after its answer to a report
     drops      it ends the connection instead of answering a report
     aborts     it sends an A-ABORT instead of answering a report
-    full       (only with --full) the history of a server with a store is full before it takes its first report: this takes a
-               million requests, or --entries
+    full       (only with --full) a million reports wait for it at a server with a store before it takes the first one, so that other
+               requests are refused for lack of room
 
 It may be asked for an association at most six times in that time, by tries that are 1, 2, 4 and 8 seconds apart. In the end each
 report must have come to it once, in the order of the pushes. The log must say how the first delivery ended, not `Released`, that
 the watcher is away, and once it has taken its reports that it is back. A report that is answered with a failure counts as
 answered, and no longer comes; a warning names the watcher and the status.
 
-If the history is full, no answer of the watcher can be entered, so the same report comes again: not every second, but at the
-pace for a watcher that is away. The log must say at least once a minute that the history is full.
+With a million reports that wait, what the watcher acknowledges is still entered, so that each report comes once. The log must say
+at least once a minute that over 10,000 reports wait.
 
 It ends by itself, in a minute and a half, and with --full in some minutes more. It prints the log of each trial, a line for
 each thing that fails, and in the end how many passed. It ends with status 1 if any failed.
@@ -217,6 +217,7 @@ def try_full_with(program: list[str], file: str, watcher: Drops, entries: int, r
         asker.do(create(PUSH_ON, 1, WATCHED, a_step(b"P")))
         asker.do(subscribe(WATCHED, b"W1", b"FALSE"))
         asker.do(create(PUSH_ON, 1, BUSY, a_step(b"P")))
+        asker.do(subscribe(BUSY, b"W1", b"FALSE"))
         asker.do(claim(1, BUSY, b"2.25.1"))
         asker.release()
         began = time.monotonic()
@@ -230,10 +231,10 @@ def try_full_with(program: list[str], file: str, watcher: Drops, entries: int, r
         most = max(watcher.came.values(), default=0)
         results.tell("full, how often it is asked", None if 1 <= asked <= MOST else f"{asked} times, {BAD} s behind the first report")
         results.tell("full, its reports", None if 1 <= most <= MOST else f"one came {most} times in {BAD} s")
-        is_told = holds(lambda: told_of(server, r"history.*full"), LATELY)
-        results.tell("full, the log", None if is_told else "no line tells that the history is full")
+        is_told = holds(lambda: told_of(server, "reports wait for W1"), LATELY)
+        results.tell("full, the log", None if is_told else "no line tells that reports wait")
         return [f"full: {entries:,} requests in {filled:.0f} s; asked {asked} times, a report came {most} times at most",
-                *(f"    {line}" for line in told_of(server, "W1|history"))]
+                *(f"    {line}" for line in told_of(server, "W1"))]
 
 
 def main() -> None:

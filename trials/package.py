@@ -9,11 +9,11 @@
 Two builds must be equal, `lintian` may find no error and no warning, `systemd-analyze security` may say at most 2.0, and the
 synopsis of upsd(8) must have the options of each --help. Then `debootstrap` makes a Debian 12 with systemd (some 300 MB from
 deb.debian.org), and `systemd-nspawn` boots it, with a network of its own. There the package is installed with what it depends
-on; the unit, as it is but for the words in /etc/default/upsd, runs the tour of README.md through `ups`; a restart, an upgrade,
-a hangup, a wrong word, a removal and a purge must do what the package says. `systemd-analyze verify` may say nothing of the units.
-The unit of the backup makes one, which is restored, and leaves a server that goes on if it is killed. With the lines for a
-cluster the unit starts on a mounted volume alone, and the resource agent starts, asks and stops it (without a cluster). In the
-end nothing of the package may be left.
+on; the unit, as it is but for the words in /etc/default/upsd, runs the tour of README.md through `ups`; a restart, a reload,
+an upgrade, a hangup, a wrong word, a removal and a purge must do what the package says. `systemd-analyze verify` may say
+nothing of the units. The unit of the backup makes one, which is restored, and leaves a server that goes on if it is killed. With
+the lines for a cluster the unit starts on a mounted volume alone, and the resource agent starts, asks and stops it (without a
+cluster). In the end nothing of the package may be left.
 
 It installs what is missing (lintian, debootstrap, systemd-container, man-db, python3-pydicom) and needs root. It prints a line
 for each trial, and then `N passed, M failed`. The exit status is 1 if any failed.
@@ -284,6 +284,7 @@ def try_unit(machine: Machine, commands: list[tour.Command], results: Results) -
     results.tell("restart", fault_of(machine.run("systemctl", "restart", "upsd.service")) or listens(machine))
     found = machine.says("ups", "find")
     results.tell("a restart loses nothing", unless(found == held and "1 found" in held, f"{found!r} and not {held!r}"))
+    try_reload(machine, commands, results)
     before = machine.of_unit("MainPID")
     results.tell("upgrade", fault_of(machine.run("dpkg", "--install", "--force-confold", "/root/upsd.deb")) or listens(machine))
     results.tell("an upgrade restarts what runs", unless(machine.of_unit("MainPID") != before, f"it is still {before}"))
@@ -291,6 +292,19 @@ def try_unit(machine: Machine, commands: list[tour.Command], results: Results) -
     results.tell("the log has no error", unless(not errors, errors))
     ran = machine.run("runuser", "-u", "upsd", "--", "upsd", "compact", STORE)
     results.tell("a store that is open is not compacted", unless(ran.returncode == 2, f"status {ran.returncode}"))
+
+
+def try_reload(machine: Machine, commands: list[tour.Command], results: Results) -> None:
+    """Reloads the unit with wrong options, which has to leave the server alone, and with right ones, which restarts it."""
+    before = machine.of_unit("MainPID")
+    has_words(machine, f"{serve_words(commands)} --keep never")
+    ran = machine.run("systemctl", "reload", "upsd.service")
+    results.tell("a reload with a wrong option fails", unless(ran.returncode != 0, "it succeeds"))
+    results.tell("and the server goes on", unless(machine.of_unit("MainPID") == before, "it was restarted") or listens(machine))
+    has_words(machine, serve_words(commands))
+    results.tell("reload", fault_of(machine.run("systemctl", "reload", "upsd.service")) or listens(machine))
+    found = machine.of_unit("MainPID"), machine.of_unit("NRestarts")
+    results.tell("a reload is a restart", unless(found[0] not in (before, "0") and found[1] == "0", f"{found}, and {before} before"))
 
 
 def try_ends(machine: Machine, commands: list[tour.Command], results: Results) -> None:

@@ -1,7 +1,7 @@
 #!/usr/bin/env python3
-"""Asks `upsd serve` without a store as much as years bring, and checks its memory, its answers and its reports.
+"""Asks `upsd serve` as much as years bring, and checks its memory, its answers and its reports.
 
-    trials/years.py [PROGRAM] [--entries 3000000] [--rate 10000] [--longest 250]      (default: crates/upsd/out/upsd)
+    trials/years.py [PROGRAM] [--entries 3000000] [--rate 10000] [--longest 250] [--store]      (default: crates/upsd/out/upsd)
 
 Four stations take steps through their lives, each over one association after the other. With each turn a station sends at once the
 creation of a step, the claim and 20 N-SETs of the one of 16 turns before, and 20 more and the completion of the one of 32 turns
@@ -29,7 +29,9 @@ while a watcher is 400 reports of progress behind. The following has to hold:
     later      what is set of the steps held after that is told to EVERY and AWAY too
     UIDs       an N-CREATE of a step that was removed is answered 0111, and an N-GET of it C307, for the first 100 and for 400 others
     worklist   a C-FIND finds the steps that are held, as they are, and no other
-    log        it has no error, tells of no full history and no lack of memory, and that AWAY was away and is back
+    log        it has no error, tells of no lack of memory, and that AWAY was away and is back
+    restart    with --store the server is killed in the end, and started on its store as it is, and then with --compact: the worklist
+               is the same, the UIDs stay used until the compaction, and it takes no more memory than before it was killed
 
 It ends by itself; 3,000,000 requests take some minutes. It prints a line for each tenth of the way and for each check, and then
 `years: N passed, M failed`. The status is 1 if any failed.
@@ -47,7 +49,9 @@ import re
 import select
 import socket
 import statistics
+import subprocess
 import sys
+import tempfile
 import time
 from collections.abc import Callable, Iterable, Iterator
 from multiprocessing.connection import Connection
@@ -481,11 +485,15 @@ def worklist(client: Client) -> list[tuple[bytes, bytes, bytes]]:
     return [(text_in(it, SOP_INSTANCE), text_in(it, STATE), text_in(it, READINESS)) for it in client.matches()]
 
 
-def judge_steps(client: Client, counts: Counts, results: Results) -> None:
-    """Looks for the steps that are held, and asks for some that were removed."""
+def judge_worklist(client: Client, counts: Counts, results: Results) -> None:
+    """Looks for the steps that are held."""
     due = [(held_uid(it), *state_of(counts, it)) for it in range(HELD)]
     is_so = holds(lambda: worklist(client) == due, 10 * KEEP)
     results.tell(f"a worklist has the {len(due)} steps that are held", None if is_so else f"{worklist(client)[:20]}")
+
+
+def judge_uids(client: Client, counts: Counts, results: Results) -> None:
+    """Asks for some of the steps that were removed."""
     lives = sorted(counts.uids(), key=lambda it: it[1])
     sample = lives[:SAMPLE // 5] + random.Random(1).sample(lives[SAMPLE // 5:], min(SAMPLE, len(lives)) - SAMPLE // 5)
     answers = {(client.create(uid_of(*it), a_step(b"AGAIN")), client.got(uid_of(*it)) is None) for it in sample}
@@ -493,7 +501,7 @@ def judge_steps(client: Client, counts: Counts, results: Results) -> None:
 
 
 def judge_log(log: list[str], results: Results) -> None:
-    wrong = [line for line in log if re.search("ERROR|history is full|out of memory", line)]
+    wrong = [line for line in log if re.search("ERROR|out of memory", line)]
     missing = [it for it in ("deliver AWAY is away", "deliver AWAY is back") if not any(it in line for line in log)]
     results.tell("the log", f"it has {wrong[:3]}, and lacks {missing}" if wrong or missing else None)
 
@@ -523,9 +531,41 @@ def spend(server: Server, watchers: list[Watcher], given: argparse.Namespace, co
     over.set()
     judge_looks(here.recv(), given.longest, results)
     judge_watchers(watchers, counts, results)
-    judge_steps(client, counts, results)
+    judge_worklist(client, counts, results)
+    judge_uids(client, counts, results)
     judge_log(server.log, results)
+    client.release()
     print(f"    in the end: {memory_of(server) / 1e6:,.1f} MB", flush=True)
+
+
+def restart(words: list[str], counts: Counts, most: int, results: Results) -> None:
+    """Starts the server on its store as it is, then with a compaction, and judges what it knows."""
+    for name, option in ("restart", []), ("with --compact", ["--compact"]):
+        with Server(words[:1], *words[1:], *option) as server:
+            memory, client = memory_of(server), Client(server.port)
+            fault = None if memory <= most else f"{most / 1e6:,.1f} MB at most are due"
+            results.tell(f"{name}: {server.took:.1f} s, {memory / 1e6:,.1f} MB", fault)
+            judge_worklist(client, counts, results)
+            if not option:
+                judge_uids(client, counts, results)
+            client.release()
+            server.process.kill()
+
+
+def run(program: str, folder: str, watchers: list[Watcher], given: argparse.Namespace, counts: Counts, results: Results) -> None:
+    """Runs the trial, with a store in this folder if it is asked for."""
+    rights, words = {SINGLE: ",lock"}, [program, "--keep", str(KEEP)]
+    if given.store:
+        file = os.path.join(folder, "upsd.db")
+        subprocess.run([program, "init", file], check=True, stdout=subprocess.DEVNULL)
+        words += ["--store", file]
+    words += [it.place + rights.get(it.title, "") for it in watchers]
+    with Server(words[:1], *words[1:]) as server:
+        spend(server, watchers, given, counts, results)
+        most = memory_of(server)
+        server.process.kill()
+    if given.store and not results.failed:
+        restart(words, counts, most, results)
 
 
 def main() -> None:
@@ -535,15 +575,14 @@ def main() -> None:
     asked.add_argument("--entries", type=int, default=3_000_000, help="how many requests are accepted, 10000 at least (%(default)s)")
     asked.add_argument("--longest", type=int, default=250, help="milliseconds that an N-GET may take (%(default)s)")
     asked.add_argument("--rate", type=int, default=10_000, help="how many are accepted a second, 0 for as many as may be (%(default)s)")
+    asked.add_argument("--store", action="store_true", help="with a store, on which the server is started again in the end")
     given, results, counts = asked.parse_args(), Results(), Counts()
     watchers = [Watcher(it, counts) for it in (EVERY, SINGLE, AWAY)]
     for it in watchers[:2]:
         it.listen()
-    rights = {SINGLE: ",lock"}
-    peers = [it.place + rights.get(it.title, "") for it in watchers]
     try:
-        with Server([os.path.abspath(given.program)], "--keep", str(KEEP), *peers) as server:
-            spend(server, watchers, given, counts, results)
+        with tempfile.TemporaryDirectory(prefix="years-") as folder:
+            run(os.path.abspath(given.program), folder, watchers, given, counts, results)
     except FAULTS as fault:
         results.tell("it comes to its end", repr(fault))
     print("years", end=": ")

@@ -55,7 +55,9 @@ fn options_of(alloc: Global) -> Result<ServerOptions, Fail> {
         associations: 1,
         rounds: 1,
         verbose: true,
+        audit: true,
         watchers: Vec::new(alloc),
+        metrics: None,
     })
 }
 

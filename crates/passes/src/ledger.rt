@@ -172,4 +172,13 @@ impl<'a> StoreOpener<'a, MemoryLedger> for MemoryStores {
     ) -> Result<(MemoryLedger, usize), Unopened> {
         Ok((MemoryLedger::new(self.alloc), 0))
     }
+
+    fn look(
+        &self,
+        _file: &'a str,
+        _choices: StartChoices,
+        _manager: &Manager<Global>,
+    ) -> Result<(), Unopened> {
+        Ok(())
+    }
 }

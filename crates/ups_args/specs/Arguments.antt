@@ -1,5 +1,7 @@
 -- What the words of a command line say.
-use Rattle.std.specs.Prelude.{◌≡◌, ◌≢◌, ◌⊎◌, ℕ, ◌<◌, ◌≤◌, ◌^◌, ℤ, Bool, true, false, ◌||◌, nat_lt, is_some, List, [], ◌∷◌, ◌++◌, length, slice_index, codes, string_bytes, Option, Some, None, option_map, unwrap_or}
+use Rattle.std.specs.Prelude.{◌≡◌, ◌≢◌, ◌⊎◌, ℕ, ◌<◌, ◌≤◌, ◌^◌, ℤ, Bool, true, false, ◌||◌, nat_eq, nat_lt, is_some, List, [], ◌∷◌, ◌++◌, length, slice_index, codes, string_bytes, Option, Some, None, option_map, unwrap_or}
+use Rattle.std.specs.Char.{is_ascii_whitespace}
+use Rattle.std.specs.List.{list_any}
 use Rattle.std.specs.Str.Parse.{IsNumeral, digits_value, signed_digits_value, without_leading_plus, without_leading_sign}
 use Rattle.clap.specs.declared.parser.matches.Found.{Found}
 use Rattle.clap.specs.Matches.{first_value, matched_of, one_text, raw_values}
@@ -10,6 +12,8 @@ use Rattle.ups_peers.specs.declared.watcher.Watcher.{Watcher}
 use Rattle.ups_pdu.specs.Title.{SpellsAe}
 use Rattle.ups_args.specs.declared.fault.ArgumentFault.{ArgumentFault}
 use Rattle.ups_args.specs.declared.fault.ArgumentFault.TheVariants as faults
+use Rattle.ups_args.specs.declared.peers.PeerLine.{PeerLine}
+use Rattle.ups_args.specs.declared.peers.PeerLine.TheVariants as lines
 use Rattle.ups_peers.specs.Limits.{default_workers, delivery_seconds, idle_seconds, timeout_seconds, workers_limit}
 use Rattle.ups_args.specs.Limits.{keep_seconds, local_offset}
 
@@ -143,6 +147,22 @@ NamePeers = EachNames NamesPeer
 
 abbrev pub NameWatchers : List (List ℕ) → List Watcher → Type 0
 NameWatchers = EachNames NamesWatcher
+
+-- a text that says nothing to a reader of peers: it is empty, or begins with #
+abbrev pub says_nothing : List ℕ → Bool
+says_nothing [] = true
+says_nothing (c ∷ cs) = nat_eq c 35
+
+-- the text names a peer whose host has white space, or has none
+abbrev pub NamesSpaced : List ℕ → Bool → Type 0
+NamesSpaced text spaced = (peer : Peer) × (host : List ℕ) × (port : ℕ) × NamesPlace text peer host port × (list_any is_ascii_whitespace host ≡ spaced)
+
+-- what a line of a file of peers says, without the white space at its ends: nothing; or it is a word that names a peer, whose
+-- host has no white space; or it is neither
+abbrev pub SaysLine : List ℕ → PeerLine → Type 0
+SaysLine text lines.Nothing = says_nothing text ≡ true
+SaysLine text (lines.Peer word) = (says_nothing text ≡ false) × (word.now ≡ text) × NamesSpaced text false
+SaysLine text lines.Other = (says_nothing text ≡ false) × (((peer : Peer) → NamesPeer text peer → ⊥) ⊎ NamesSpaced text true)
 
 -- the words before this one name peers with different titles
 pub record StopsAt (words : List (List ℕ)) (word : List ℕ) (before : List Peer) : Type 0 where

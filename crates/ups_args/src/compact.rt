@@ -7,7 +7,7 @@ ghost use Rattle.ups_life.specs.Limits.{history_limit, peer_limit};
 ghost use Rattle.ups_settings.specs.Refusal.{refusal};
 
 use crate::fault::ArgumentFault;
-use crate::peers::peer_words;
+use crate::peers::with_peers;
 use crate::script::{ScriptArguments, script_arguments};
 use crate::store::{leave_out_flag, other_settings_flag, store_word};
 use crate::times::with_helped_times;
@@ -24,12 +24,11 @@ pub(crate) fn compact_command<'a>(alloc: Global) -> Result<Command<'a>, AllocErr
         "for how many seconds a finished step is kept at least; without --keep, --offset and PEER as in the last run";
     let offset =
         "the offset of the local time from UTC, above 0 east of it; without --keep, --offset and PEER as in the last run";
-    with_helped_times(alloc, command, keep, offset)?
-        .arg(store_word(
-            alloc,
-            "the file of the store, which no server may have open",
-        ))?
-        .arg(peer_words(alloc))
+    let command = with_helped_times(alloc, command, keep, offset)?.arg(store_word(
+        alloc,
+        "the file of the store, which no server may have open",
+    ))?;
+    with_peers(alloc, command)
 }
 
 /// The arguments of `compact`.

@@ -21,6 +21,7 @@ pub use compact::{CompactArguments, compact_arguments};
 pub use fault::ArgumentFault;
 pub use init::{InitArguments, init_arguments};
 pub use limits::{KEEP, OFFSET, limits_are_as_defined};
+pub use peers::{PeerLine, peer_line};
 pub use pipe::{PipeArguments, pipe_arguments};
 pub use program::{VERSION, command};
 pub use script::{ScriptArguments, script_arguments};

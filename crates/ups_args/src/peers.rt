@@ -1,27 +1,44 @@
 //! The application entities that may watch steps, and where each of them listens.
 
 ghost use Rattle.std.specs.Prelude.{◌≡◌, ◌≤◌, Bool, List, false, length, map, IfErr, IfOk, MatchOption};
-ghost use Rattle.ups_args.specs.Arguments.{FailToName, NamePeers, NamesPeer, NamesPlace, NameWatchers, SaysLock, SaysPlace};
+ghost use Rattle.std.specs.Char.{is_ascii_whitespace};
+ghost use Rattle.std.specs.List.{list_any};
+ghost use Rattle.std.specs.Str.{trim};
+ghost use Rattle.ups_args.specs.Arguments.{FailToName, NamePeers, NamesPeer, NamesPlace, NameWatchers, SaysLine, SaysLock, SaysPlace, says_nothing};
 ghost use Rattle.ups_life.specs.declared.peer.Peer.{Peer};
 ghost use Rattle.ups_life.specs.Limits.{peer_limit};
 ghost use Rattle.ups_settings.specs.Refusal.{is_named, is_twice};
 
 use crate::addresses::{Address, address_of};
 use crate::fault::ArgumentFault;
-use clap::{Arg, ArgAction};
-use std::alloc::{Allocator, Global};
+use crate::options::worded;
+use crate::store::naming_file;
+use clap::{Arg, ArgAction, Command};
+use std::alloc::{AllocError, Allocator, Global};
 use ups_life::{MAX_PEERS, Peer};
 use ups_pdu::Ae;
 use ups_peers::Watcher;
 
 /// Returns the argument for the words that name peers.
-pub(crate) fn peer_words<'a>(alloc: Global) -> Arg<'a> {
+fn peer_words<'a>(alloc: Global) -> Arg<'a> {
     Arg::new(alloc, "peer")
         .value_name("PEER")
         .help(
             "an application entity that may watch steps, and gets its reports there: AE=host:port or AE=host:port,lock",
         )
         .action(ArgAction::Append)
+}
+
+/// Adds the option for a file that names peers, and the argument for the words that do.
+pub(crate) fn with_peers<'a>(
+    alloc: Global,
+    command: Command<'a>,
+) -> Result<Command<'a>, AllocError> {
+    let peers =
+        "a file with a PEER on each line, as if they came last; blank lines and those that begin with # count for nothing";
+    command
+        .arg(naming_file(worded(alloc, "peers", "FILE", peers)))?
+        .arg(peer_words(alloc))
 }
 
 /// Returns the address of a peer, and whether the peer may lock steps: `,lock` after the address allows that. Returns
@@ -116,4 +133,50 @@ pub(crate) fn watchers_of<'a>(
         })?;
     }
     Ok(watchers)
+}
+
+/// What a line of a file of peers says.
+#[derive(Clone, Copy, Debug, PartialEq, Eq)]
+pub enum PeerLine<'a> {
+    /// Nothing: it is blank, or begins with `#`.
+    Nothing,
+    /// This word, which names a peer.
+    Peer(&'a str),
+    /// Something else.
+    Other,
+}
+
+/// Returns whether a text says nothing to a reader of peers: it is empty, or begins with `#`.
+fn says_nothing(text: &str) -> bool
+    ensures { result ≡ says_nothing text.now }
+{
+    match text.as_bytes().first() {
+        Some(first) => *first == b'#',
+        None => true,
+    }
+}
+
+/// Returns whether a text has white space.
+fn has_space(text: &str) -> bool
+    ensures { result ≡ list_any is_ascii_whitespace text.now }
+{
+    text.as_bytes().iter().any(|b| b.is_ascii_whitespace())
+}
+
+/// Returns what a line of a file of peers says, without the white space at its ends. A host has no white space: two words
+/// on a line would be a peer.
+pub fn peer_line(line: &str) -> PeerLine<'_>
+    ensures { SaysLine (trim line.now) result }
+{
+    let word = line.trim();
+    if says_nothing(word) {
+        return PeerLine::Nothing;
+    }
+    let Some(PeerWord { peer: _, address }) = peer_word_of(word) else {
+        return PeerLine::Other;
+    };
+    if has_space(address.host) {
+        return PeerLine::Other;
+    }
+    PeerLine::Peer(word)
 }

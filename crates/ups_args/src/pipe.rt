@@ -10,7 +10,7 @@ ghost use Rattle.ups_pdu.specs.Title.{SpellsAe};
 
 use crate::fault::ArgumentFault;
 use crate::options::flag;
-use crate::peers::{peer_words, peers_of};
+use crate::peers::{peers_of, with_peers};
 use crate::title::{ae_of, ae_word};
 use clap::{ArgMatches, Command};
 use std::alloc::{AllocError, Global};
@@ -20,11 +20,11 @@ use ups_pdu::Ae;
 /// Returns the command line of `upsd pipe`.
 pub(crate) fn pipe_command<'a>(alloc: Global) -> Result<Command<'a>, AllocError> {
     let hex = "read hex digits, and write each PDU as a line of them";
-    Command::new(alloc, "pipe")
+    let command = Command::new(alloc, "pipe")
         .about("answers one association from standard input to standard output")
         .arg(ae_word(alloc))?
-        .arg(flag(alloc, "hex", hex))?
-        .arg(peer_words(alloc))
+        .arg(flag(alloc, "hex", hex))?;
+    with_peers(alloc, command)
 }
 
 /// The arguments of `pipe`.

@@ -7,7 +7,7 @@ ghost use Rattle.ups_life.specs.Limits.{history_limit, peer_limit};
 ghost use Rattle.ups_settings.specs.Refusal.{refusal};
 
 use crate::fault::ArgumentFault;
-use crate::peers::{peer_words, peers_of};
+use crate::peers::{peers_of, with_peers};
 use crate::times::{keep_asked, offset_asked, with_times};
 use clap::{ArgMatches, Command};
 use std::alloc::{AllocError, Global};
@@ -18,7 +18,7 @@ pub(crate) fn script_command<'a>(alloc: Global) -> Result<Command<'a>, AllocErro
     let command = Command::new(alloc, "script").about(
         "answers a script from standard input, a line for each of its lines",
     );
-    with_times(alloc, command)?.arg(peer_words(alloc))
+    with_peers(alloc, with_times(alloc, command)?)
 }
 
 /// The arguments of `script`.

@@ -11,9 +11,9 @@ ghost use Rattle.ups_pdu.specs.Title.{SpellsAe};
 use crate::fault::ArgumentFault;
 use crate::limits::LOOPBACK;
 use crate::options::{flag, worded};
-use crate::peers::{peer_words, watchers_of};
+use crate::peers::{watchers_of, with_peers};
 use crate::script::script_arguments;
-use crate::store::with_store;
+use crate::store::{naming_file, with_store};
 use crate::times::{seconds_asked, with_times};
 use crate::title::{ae_of, ae_word};
 use clap::{ArgMatches, Command};
@@ -61,9 +61,17 @@ fn with_limits<'a>(alloc: Global, command: Command<'a>) -> Result<Command<'a>, A
 
 /// Adds the options of a server for its address, its associations and deliveries, and its log.
 fn with_network<'a>(alloc: Global, command: Command<'a>) -> Result<Command<'a>, AllocError> {
+    let check =
+        "look at the command line, the hosts of the watchers and the store, and end without a start";
     let verbose = "tell of each association whether it is accepted, and of each request";
+    let audit = "log each change, query and N-GET that is accepted, with who asked for it";
+    let metrics = "the file into which numbers for Prometheus are written [default: none]";
     let command = with_workers(alloc, with_door(alloc, command)?)?;
-    with_limits(alloc, command)?.arg(flag(alloc, "verbose", verbose))
+    with_limits(alloc, command)?
+        .arg(flag(alloc, "check", check))?
+        .arg(flag(alloc, "verbose", verbose))?
+        .arg(flag(alloc, "audit", audit))?
+        .arg(naming_file(worded(alloc, "metrics", "FILE", metrics)))
 }
 
 /// Returns the command line of `upsd serve`.
@@ -72,7 +80,7 @@ pub(crate) fn serve_command<'a>(alloc: Global) -> Result<Command<'a>, AllocError
         .about("answers associations over TCP, and delivers event reports")
         .arg(ae_word(alloc))?;
     let command = with_times(alloc, with_network(alloc, command)?)?;
-    with_store(alloc, command)?.arg(peer_words(alloc))
+    with_peers(alloc, with_store(alloc, command)?)
 }
 
 /// Parses the number of a port; 0 means any free port.
@@ -180,8 +188,14 @@ pub struct ServeArguments<'a> {
     pub store: Option<&'a str>,
     /// What the start may do with the requests of the store.
     pub choices: StartChoices,
+    /// Whether to look alone at what a start would find, and to serve nothing.
+    pub check: bool,
     /// Whether to log how each association is answered, and each request.
     pub verbose: bool,
+    /// Whether to log each accepted change, query and N-GET, with who asked for it.
+    pub audit: bool,
+    /// The file into which the numbers of the server are written, if there is one.
+    pub metrics: Option<&'a str>,
 }
 
 /// Parses the arguments of `serve`.
@@ -209,7 +223,10 @@ pub fn serve_arguments<'a>(
     ensures leave_out { IfOk result (λ asked. IsFlag (found_of matches.now) (codes "store-leave-out") asked.choices.may_leave_out) }
     ensures compact { IfOk result (λ asked. IsFlag (found_of matches.now) (codes "compact") asked.choices.may_compact) }
     ensures other_settings { IfOk result (λ asked. IsFlag (found_of matches.now) (codes "store-other-settings") asked.choices.may_change_terms) }
+    ensures check { IfOk result (λ asked. IsFlag (found_of matches.now) (codes "check") asked.check) }
     ensures verbose { IfOk result (λ asked. IsFlag (found_of matches.now) (codes "verbose") asked.verbose) }
+    ensures audit { IfOk result (λ asked. IsFlag (found_of matches.now) (codes "audit") asked.audit) }
+    ensures metrics { IfOk result (λ asked. option_map (λ w. w.now) asked.metrics ≡ first_value (found_of matches.now) (codes "metrics")) }
     ensures some { IfOk result (λ asked. 1 ≤ asked.limits.workers) }
     ensures most { IfOk result (λ asked. asked.limits.workers ≤ workers_limit) }
     ensures few { IfOk result (λ asked. length asked.peers.items ≤ peer_limit) }
@@ -236,6 +253,9 @@ pub fn serve_arguments<'a>(
             may_compact: matches.get_flag("compact"),
             may_change_terms: matches.get_flag("store-other-settings"),
         },
+        check: matches.get_flag("check"),
         verbose: matches.get_flag("verbose"),
+        audit: matches.get_flag("audit"),
+        metrics: matches.get_str("metrics"),
     })
 }

@@ -30,7 +30,7 @@ pub(crate) fn store_word<'a>(alloc: Global, help: &'a str) -> Arg<'a> {
 }
 
 /// Returns an argument that names a file, and so is not empty.
-fn naming_file<'a>(arg: Arg<'a>) -> Arg<'a> {
+pub(crate) fn naming_file<'a>(arg: Arg<'a>) -> Arg<'a> {
     arg.value_parser(ValueParser::NonEmptyString)
 }
 

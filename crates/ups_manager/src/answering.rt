@@ -39,7 +39,8 @@ fn refuse_when_full<A: Allocator + Copy>(
     }
 }
 
-/// Returns the decision about a call that is accepted, if the history has room for it.
+/// Returns the decision about a call that is accepted, if the history has room for it, and fewer than `most` entries are
+/// in memory.
 ///
 /// Errors: the reply that refuses the call, or that says that the history or the memory for it is full, or that memory
 /// ran out.
@@ -49,6 +50,7 @@ fn decide_with_room<A: Allocator + Copy>(
     history: &History<A>,
     tables: &Tables<A>,
     call: &Entry<A>,
+    most: u64,
 ) -> Result<Decision<A>, Reply<A>>
     requires moment { IsMoment call.now.moment }
     requires stands { ManagerStands configuration.now history.now.entries tables.now }
@@ -56,13 +58,14 @@ fn decide_with_room<A: Allocator + Copy>(
     ensures room { OnOk result (length history.now.entries < configuration.now.limit) }
     ensures refused { IfErr result (IsRefused configuration.now history.now.entries call.now) }
 {
-    if is_full(configuration, history) || is_memory_full(history) {
+    if is_full(configuration, history) || is_memory_full(history, most) {
         return refuse_when_full(alloc, configuration, history, tables, call);
     }
     decide(alloc, configuration, history, tables, call)
 }
 
-/// Answers a call by the history, and enters it there, in the tables and in the index if it is accepted.
+/// Answers a call by the history, and enters it there, in the tables and in the index if it is accepted. With `most`
+/// entries in memory none is.
 pub(crate) fn answer_call<A: Allocator + Copy>(
     alloc: A,
     configuration: &Configuration<A>,
@@ -71,6 +74,7 @@ pub(crate) fn answer_call<A: Allocator + Copy>(
     tables: &mut Tables<A>,
     index: &mut Index<A>,
     call: Entry<A>,
+    most: u64,
 ) -> Reply<A>
     requires moment { IsMoment call.moment }
     requires stands { ManagerStands configuration.now history.old.entries tables.old }
@@ -84,7 +88,7 @@ pub(crate) fn answer_call<A: Allocator + Copy>(
     ensures remembers { Remembers configuration.now history.new }
     ensures first { history.new.first ≡ history.old.first }
 {
-    match decide_with_room(alloc, configuration, history, tables, &call) {
+    match decide_with_room(alloc, configuration, history, tables, &call, most) {
         Ok(decision) => match enter(
             configuration,
             reserve,

@@ -31,6 +31,7 @@ use crate::peers::{first_pending, waiting_at, watched_in};
 use crate::reporting::reports_of;
 use crate::reserve::Reserve;
 use crate::rows::{find, uids_of};
+use crate::submitting::{MOST_IN_MEMORY, most_in_memory};
 use crate::worklist::matches_of_class;
 use std::alloc::{AllocError, Allocator};
 use std::marker::Model;
@@ -253,7 +254,7 @@ impl<A: Allocator + Copy> Manager<A> {
     /// Lets requests before the one at index `upto` of the history leave memory. Those stay that an event is of which is
     /// pending for a watcher (PS3.4 CC.2.4): no other is needed for what is asked later. A call looks at 320 requests
     /// at most, so that it takes no long time, and no reply tells whether they have left. Returns whether a further
-    /// call has more to look at.
+    /// call has more to look at, or may let more go.
     pub fn let_go(&mut self, upto: usize) -> bool
         ensures settings { self.new.settings ≡ self.old.settings }
         ensures history { self.new.history ≡ self.old.history }
@@ -373,10 +374,9 @@ impl<A: Allocator + Copy> Manager<A> {
         }
     }
 
-    /// Answers a call, given as the entry that it would become, by the history, and enters it if it is accepted. The
-    /// reply 0213 also means that memory ran out or that a creation would not leave 16 MiB of it. After it, and after
-    /// any other refusal, nothing has changed.
-    pub fn submit(&mut self, call: Entry<A>) -> Reply<A>
+    /// Answers a call, given as the entry that it would become, by the history, and enters it if it is accepted and fewer
+    /// than `most` entries are in memory.
+    fn submit_within(&mut self, call: Entry<A>, most: u64) -> Reply<A>
         requires moment { IsMoment call.moment }
         ensures answer { Answers self.old.settings self.old.history call.caller call.ae call.moment (Do call.request) result }
         ensures history { self.new.history ≡ self.old.history ++ entered call.caller call.ae call.moment (Do call.request) result }
@@ -396,7 +396,34 @@ impl<A: Allocator + Copy> Manager<A> {
             reserve,
             ..
         } = self;
-        answer_call(*alloc, configuration, reserve, history, tables, index, call)
+        answer_call(
+            *alloc,
+            configuration,
+            reserve,
+            history,
+            tables,
+            index,
+            call,
+            most,
+        )
+    }
+
+    /// Answers a call, given as the entry that it would become, by the history, and enters it if it is accepted. The
+    /// reply 0213 also means that memory ran out or that a creation would not leave 16 MiB of it. After it, and after
+    /// any other refusal, nothing has changed. It takes a tenth more entries in memory than [`Manager::answer_as`], so that
+    /// what was entered can be entered again.
+    pub fn submit(&mut self, call: Entry<A>) -> Reply<A>
+        requires moment { IsMoment call.moment }
+        ensures answer { Answers self.old.settings self.old.history call.caller call.ae call.moment (Do call.request) result }
+        ensures history { self.new.history ≡ self.old.history ++ entered call.caller call.ae call.moment (Do call.request) result }
+        ensures settings { self.new.settings ≡ self.old.settings }
+        ensures asked { self.new.asked ≡ self.old.asked }
+        ensures first { self.new.first ≡ self.old.first }
+        ensures small { SmallReply result }
+        ensures legal { is_legal self.old.settings self.old.history }
+        ensures legal_after { is_legal self.new.settings self.new.history }
+    {
+        self.submit_within(call, MOST_IN_MEMORY)
     }
 
     /// Answers a C-FIND by the rules of PS3.4, and notes about how many held steps it asked.
@@ -425,7 +452,8 @@ impl<A: Allocator + Copy> Manager<A> {
 
     /// Answers what an application entity asks by the history, and enters it if it is a request that is accepted.
     /// `caller` is the number of the caller, and `moment` is in seconds since 1970-01-01 UTC. A query asks once about
-    /// each held step of its class whether it matches, and about no other step.
+    /// each held step of its class whether it matches, and about no other step. With 1,000,000 entries in memory, and
+    /// another tenth for an acknowledgement or a sweep, a request that would be accepted gets 0213.
     pub fn answer_as(&mut self, caller: u32, ae: Ae, moment: u64, ask: Ask<A>) -> Reply<A>
         requires moment { IsMoment moment }
         ensures answer { Answers self.old.settings self.old.history caller ae moment ask result }
@@ -438,12 +466,16 @@ impl<A: Allocator + Copy> Manager<A> {
         ensures legal_after { is_legal self.new.settings self.new.history }
     {
         match ask {
-            Ask::Do(request) => self.submit(Entry {
-                caller,
-                ae,
-                moment,
-                request,
-            }),
+            Ask::Do(request) => {
+                let most = most_in_memory(&request);
+                let call = Entry {
+                    caller,
+                    ae,
+                    moment,
+                    request,
+                };
+                self.submit_within(call, most)
+            }
             Ask::Get { step, attributes } => self.get(step, attributes.as_slice()),
             Ask::Find(keys) => self.find_noted(&keys),
             Ask::Pending { max } => self.pending(ae, max),

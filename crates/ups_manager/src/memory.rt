@@ -37,27 +37,37 @@ fn look<A: Allocator + Copy>(
     true
 }
 
-/// Looks again at an entry that stayed for an event: it leaves if none that is pending refers to it any more. Returns
-/// the index of the next one, or 0 behind the last.
+/// What became of an entry that was looked at again.
+#[derive(Clone, Copy, Debug, PartialEq, Eq)]
+enum LookedAt {
+    /// It stays for an event.
+    Stays,
+    /// It has left memory.
+    Left,
+    /// There is none at the index.
+    Nothing,
+}
+
+/// Looks again at an entry that stayed for an event: it leaves if none that is pending refers to it any more.
 fn look_again<A: Allocator + Copy>(
     configuration: &Configuration<A>,
     history: &mut History<A>,
     tables: &Tables<A>,
     index: usize,
-) -> usize
+) -> LookedAt
     requires stands { TablesStand configuration.now history.old.entries tables.now }
     requires remembers { Remembers configuration.now history.old }
     ensures history { history.new.entries ≡ history.old.entries }
     ensures remembers { Remembers configuration.now history.new }
 {
     let Some(place) = history.kept_at(index) else {
-        return 0;
+        return LookedAt::Nothing;
     };
     if tables.queues.refers_to(place) {
-        return index.saturating_add(1);
+        return LookedAt::Stays;
     }
     history.let_go(place);
-    index
+    LookedAt::Left
 }
 
 /// Looks at some of the entries set aside. Returns whether there may be more to look at.
@@ -79,28 +89,34 @@ fn look_at_some<A: Allocator + Copy>(
     true
 }
 
-/// Looks again at some of the entries that stayed for an event, from an index on. Returns the index of the next one.
+/// Looks again at some of the entries that stayed for an event, from an index on. Returns whether any has left, and the
+/// index of the next one.
 fn look_at_some_again<A: Allocator + Copy>(
     configuration: &Configuration<A>,
     history: &mut History<A>,
     tables: &Tables<A>,
     from: usize,
-) -> usize
+) -> (bool, usize)
     requires stands { TablesStand configuration.now history.old.entries tables.now }
     requires remembers { Remembers configuration.now history.old }
     ensures history { history.new.entries ≡ history.old.entries }
     ensures remembers { Remembers configuration.now history.new }
 {
+    let mut has_left = false;
     let mut index = from;
     for _ in 0..LOOKED_AT_AGAIN {
-        index = look_again(configuration, history, tables, index);
+        match look_again(configuration, history, tables, index) {
+            LookedAt::Stays => index = index.saturating_add(1),
+            LookedAt::Left => has_left = true,
+            LookedAt::Nothing => index = 0,
+        }
     }
-    index
+    (has_left, index)
 }
 
 /// Lets entries before the one at index `upto` leave memory, if no event that is pending refers to them: looks at some
-/// of them, and again at some that stayed, from the index `again` on. Returns whether there are more to look at, and
-/// the index of the next one of those that stayed.
+/// of them, and again at some that stayed, from the index `again` on. Returns whether there are more to look at, or some
+/// that stayed have left, so that others may, and the index of the next one of those that stayed.
 pub(crate) fn let_go<A: Allocator + Copy>(
     configuration: &Configuration<A>,
     history: &mut History<A>,
@@ -116,6 +132,6 @@ pub(crate) fn let_go<A: Allocator + Copy>(
     history.set_aside(upto);
     let _first = history.first();
     let is_more = look_at_some(configuration, history, tables);
-    let next = look_at_some_again(configuration, history, tables, again);
-    (is_more, next)
+    let (has_left, next) = look_at_some_again(configuration, history, tables, again);
+    (is_more || has_left, next)
 }

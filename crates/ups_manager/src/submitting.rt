@@ -58,9 +58,21 @@ pub(crate) fn is_full<A: Allocator + Copy>(
     configuration.limit() <= history.len() as u64
 }
 
-/// Returns whether as many entries of a history are in memory as may be, so that no further request is entered.
-pub(crate) fn is_memory_full<A: Allocator + Copy>(history: &History<A>) -> bool {
-    history.in_memory() as u64 >= MAX_HISTORY
+/// The most entries in memory for which one is entered again, or one that makes room: a tenth more than for others, so
+/// that reports can be acknowledged in a full memory, and a start never lacks room that the run before it had.
+pub(crate) const MOST_IN_MEMORY: u64 = MAX_HISTORY / 10 * 11;
+
+/// Returns how many entries may be in memory so that a request is entered that is asked for.
+pub(crate) fn most_in_memory<A: Allocator + Copy>(request: &Request<A>) -> u64 {
+    match request {
+        Request::Ack { .. } | Request::Sweep => MOST_IN_MEMORY,
+        _ => MAX_HISTORY,
+    }
+}
+
+/// Returns whether `most` entries of a history are in memory.
+pub(crate) fn is_memory_full<A: Allocator + Copy>(history: &History<A>, most: u64) -> bool {
+    history.in_memory() as u64 >= most
 }
 
 /// Returns whether a request creates a step under a UID that was used.

@@ -20,7 +20,7 @@ pub use logging::journal::end_told;
 pub use logging::lossy_log::LossyLog;
 pub use logging::tally::Tally;
 pub use threads::delivering::deliver_rounds;
-pub use threads::options::ServerOptions;
+pub use threads::options::{MetricsFile, ServerOptions};
 pub use threads::roster::{Roster, Share, is_passed_over, longer_pause, may_take, share_of};
 pub use threads::server_state::ServerState;
 pub use threads::serving::serve_one;

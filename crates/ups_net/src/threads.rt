@@ -8,6 +8,7 @@ pub(crate) mod inspected;
 pub(crate) mod monitor;
 pub(crate) mod numbers;
 pub(crate) mod options;
+pub(crate) mod publisher;
 pub(crate) mod roster;
 pub(crate) mod server_state;
 pub(crate) mod serving;

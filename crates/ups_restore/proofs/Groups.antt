@@ -1,5 +1,5 @@
 -- Records of a history that are put into a ledger in groups.
-use Rattle.std.proofs.Common.{◌≡◌, ℕ, ◌<◌, ◌≤◌, ◌+◌, List, ◌++◌, length, map, take, drop, refl, sym, ap, ◌∙◌, arith}
+use Rattle.std.proofs.Common.{◌≡◌, ℕ, ◌≤◌, ◌+◌, List, ◌++◌, length, map, take, drop, refl, sym, ap, ◌∙◌, arith}
 use Rattle.std.proofs.lemmas.List.{append_assoc, length-take, length-drop, length-map, take_all}
 use Rattle.ups_life.specs.declared.entry.Entry.{Entry}
 use Rattle.ups_journal.specs.declared.record.Record.{Record}

@@ -3,7 +3,6 @@ mod Going
 mod Groups
 mod Leftover
 mod Legally
-mod Once
 mod Pending
 mod Runs
 mod Taking

@@ -6,17 +6,12 @@ use Rattle.ups_life.specs.declared.request.Request.TheVariants.{Ack}
 use Rattle.ups_life.specs.Settings.{Settings}
 use Rattle.ups_life.specs.Steps.{past}
 use Rattle.ups_life.specs.Events.{pending}
-use Rattle.ups_settings.specs.Refusal.{refusal}
 use Rattle.ups_journal.specs.declared.record.Record.{Record}
 use Rattle.ups_journal.specs.Columns.{recorded}
 use Rattle.ups_compact.specs.Compacting.{of_steps, known_up_to}
 use Rattle.ups_restore.specs.declared.fault.CompactFault.{CompactFault}
 use Rattle.ups_restore.specs.declared.fault.CompactFault.TheVariants as faults
 use Rattle.ups_restore.specs.Replaying.{IsWant}
-
--- a manager can be made with these settings
-abbrev pub AreAllowed : Settings → Type 0
-AreAllowed s = refusal s.peers s.offset s.limit ≡ None
 
 -- the number that w is to acknowledge after the history `after`, which replaces the history `before`; `steps` were held there
 abbrev pub known_behind : {A : Type 0} → Settings → List (List ℕ) → List (Entry A) → List (Entry A) → List ℕ → Option ℕ

@@ -5,7 +5,8 @@ ghost use Rattle.ups_life.specs.Events.{pending};
 ghost use Rattle.ups_life.specs.Settings.{IsMoment};
 ghost use Rattle.ups_life.specs.Steps.{past};
 ghost use Rattle.ups_service.specs.Law.{is_legal};
-ghost use Rattle.ups_compact.specs.Compacting.{events_of};
+ghost use Rattle.ups_life.specs.Watching.{held};
+ghost use Rattle.ups_compact.specs.Compacting.{compacted, events_of, left};
 ghost use Rattle.ups_restore.specs.declared.fault.CompactFault.TheVariants.{Memory};
 ghost use Rattle.ups_restore.specs.Compacting.{known_behind, ack_of, acks, IsNoRefusal};
 
@@ -111,11 +112,14 @@ fn acknowledgements(
     Ok(entries)
 }
 
-/// Enters into a fresh manager the acknowledgements of the peers that know some of the events pending in it. `steps`
-/// are those that were held in `manager`.
+/// Enters into a fresh manager the acknowledgements of the peers that know some of the events pending in it, made at
+/// `moment` by [`COMPACTOR`]. `steps` are those that are held in `manager`. If the fresh manager has the entries of the
+/// other that stay for these, it then has its compacted history.
 ///
-/// Errors: at the first that is not entered. If they legally continue its history, only if memory runs out.
-pub(crate) fn acknowledge(
+/// # Errors
+///
+/// `Memory`; `Entering` at the first that is not entered. If they legally continue its history, only if memory runs out.
+pub fn acknowledge(
     alloc: Global,
     manager: &Manager<Global>,
     fresh: &mut Manager<Global>,
@@ -125,6 +129,7 @@ pub(crate) fn acknowledge(
     requires moment { IsMoment moment }
     requires settings { fresh.old.settings ≡ manager.now.settings }
     ensures entered { OnOk result (fresh.new.history ≡ fresh.old.history ++ acks COMPACTOR moment (known_behind manager.now.settings steps.now manager.now.history fresh.old.history) manager.now.settings.peers) }
+    ensures compacted { OnOk result (steps.now ≡ held manager.now.settings (past manager.now.history) → fresh.old.history ≡ left steps.now manager.now.history → past fresh.new.history ≡ compacted COMPACTOR moment manager.now.settings (past manager.now.history)) }
     ensures only { is_legal fresh.old.settings (fresh.old.history ++ acks COMPACTOR moment (known_behind manager.now.settings steps.now manager.now.history fresh.old.history) manager.now.settings.peers) → IfErr result IsNoRefusal }
     ensures settings { fresh.new.settings ≡ fresh.old.settings }
     ensures legal { is_legal fresh.new.settings fresh.new.history }

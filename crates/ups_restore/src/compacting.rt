@@ -1,13 +1,13 @@
 //! A manager with the compacted history of another.
 
-ghost use Rattle.std.specs.Prelude.{◌≡◌, ◌-◌, nat_lt, [], ◌∷◌, ◌++◌, length, map, All, OnOk, IfOk, IfErr, MatchResult};
+ghost use Rattle.std.specs.Prelude.{◌≡◌, ◌-◌, nat_lt, [], ◌∷◌, ◌++◌, false, length, map, All, OnOk, IfOk, IfErr, MatchResult};
 ghost use Rattle.ups_life.specs.Settings.{IsMoment};
 ghost use Rattle.ups_life.specs.Steps.{past};
 ghost use Rattle.ups_journal.specs.Columns.{recorded};
 ghost use Rattle.ups_service.specs.Law.{is_legal};
-ghost use Rattle.ups_compact.specs.Compacting.{left, compact, compacted};
+ghost use Rattle.ups_compact.specs.Compacting.{left, compact, compacted, has_title_twice};
 ghost use Rattle.ups_restore.specs.declared.acknowledging.TheConstants.{COMPACTOR};
-ghost use Rattle.ups_restore.specs.Compacting.{AreAllowed, HasPut, IsNoRefusal};
+ghost use Rattle.ups_restore.specs.Compacting.{HasPut, IsNoRefusal};
 
 use crate::acknowledging::acknowledge;
 use crate::fault::CompactFault;
@@ -98,7 +98,7 @@ fn compact(
     requires settings { fresh.old.settings ≡ manager.now.settings }
     requires new { fresh.old.history ≡ [] }
     ensures compacted { OnOk result (past fresh.new.history ≡ compacted COMPACTOR moment manager.now.settings (past manager.now.history)) }
-    ensures only { AreAllowed manager.now.settings → IfErr result IsNoRefusal }
+    ensures only { has_title_twice manager.now.settings.peers ≡ false → IfErr result IsNoRefusal }
     ensures settings { fresh.new.settings ≡ fresh.old.settings }
     ensures legal { is_legal fresh.new.settings fresh.new.history }
 {
@@ -120,8 +120,8 @@ fn compact(
 ///
 /// # Errors
 ///
-/// `Recording` at the first entry that has no record; `Entering` at the first that is not entered (with the settings of
-/// a manager, only if memory runs out); `Ledger` if the ledger does not take records (those that it took stay there);
+/// `Recording` at the first entry that has no record; `Entering` at the first that is not entered (unless two peers have
+/// the same title, only if memory runs out); `Ledger` if the ledger does not take records (those that it took stay there);
 /// `Memory` if memory runs out.
 pub fn compact_into<L: Ledger>(
     alloc: Global,
@@ -137,7 +137,7 @@ pub fn compact_into<L: Ledger>(
     ensures kept { OnOk result (L.is_sound ledger.new → L.kept ledger.new ≡ L.kept ledger.old ++ map recorded fresh.new.history) }
     ensures begun { L.is_sound ledger.new → HasPut (L.kept ledger.old) fresh.new.history (L.kept ledger.new) }
     ensures sound { L.is_sound ledger.new → L.is_sound ledger.old }
-    ensures only { AreAllowed manager.now.settings → IfErr result IsNoRefusal }
+    ensures only { has_title_twice manager.now.settings.peers ≡ false → IfErr result IsNoRefusal }
     ensures settings { fresh.new.settings ≡ fresh.old.settings }
     ensures legal { is_legal fresh.new.settings fresh.new.history }
 {

@@ -1,7 +1,8 @@
 //! Enters records again one by one, and may leave some of them out.
 
-ghost use Rattle.std.specs.Prelude.{◌≡◌, [], ◌∷◌, ◌++◌, List, OnErr, IfOk, IfErr, MatchResult};
+ghost use Rattle.std.specs.Prelude.{◌≡◌, [], ◌∷◌, ◌++◌, List, All, OnOk, OnErr, IfOk, IfErr, MatchResult};
 ghost use Rattle.ups_life.specs.declared.entry.Entry.{Entry};
+ghost use Rattle.ups_journal.specs.Writable.{IsWritableEntry};
 ghost use Rattle.ups_service.specs.Law.{is_legal};
 ghost use Rattle.ups_restore.specs.declared.leaving.Restored.TheVariants.{Entered};
 ghost use Rattle.ups_restore.specs.Replaying.{IsRecordOf, AreOf, IsWant};
@@ -58,6 +59,7 @@ impl Restoration {
     ) -> Result<Restored, RestoreRefusal>
         ensures became { IfOk result (λ r. Becomes manager.old.settings manager.old.history stored.now may_be_left_out r manager.new.history) }
         ensures counts { IfOk result (λ r. self.new ≡ counted_with self.old r) }
+        ensures written { OnOk result (All (λ e. IsWritableEntry e) manager.old.history → All (λ e. IsWritableEntry e) manager.new.history) }
         ensures only { (e : Entry A) → IsRecordOf manager.old.settings manager.old.history stored.now e → MatchResult result (λ r. (r ≡ Entered) × (manager.new.history ≡ manager.old.history ++ e ∷ [])) IsWant }
         ensures why { IfErr result (IsNone manager.old.settings manager.old.history stored.now may_be_left_out) }
         ensures stays { OnErr result (manager.new.history ≡ manager.old.history) }

@@ -3,6 +3,7 @@
 #![tactic(auto)]
 
 mod acknowledging;
+mod carrying;
 mod compacting;
 mod fault;
 mod leaving;
@@ -10,7 +11,8 @@ mod putting;
 mod replaying;
 mod restoring;
 
-pub use acknowledging::COMPACTOR;
+pub use acknowledging::{COMPACTOR, acknowledge};
+pub use carrying::carry_record;
 pub use compacting::{compact_into, compaction_pays};
 pub use fault::{CompactFault, Refusal, ReplayFault, RestoreFault, RestoreRefusal};
 pub use leaving::{Restoration, Restored, restore_each};

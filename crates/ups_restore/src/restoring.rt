@@ -1,7 +1,8 @@
 //! Enters records again.
 
-ghost use Rattle.std.specs.Prelude.{◌≡◌, [], ◌∷◌, ◌++◌, List, OnOk, OnErr, IfErr, MatchResult};
+ghost use Rattle.std.specs.Prelude.{◌≡◌, [], ◌∷◌, ◌++◌, List, All, OnOk, OnErr, IfErr, MatchResult};
 ghost use Rattle.ups_life.specs.declared.entry.Entry.{Entry};
+ghost use Rattle.ups_journal.specs.Writable.{IsWritableEntry};
 ghost use Rattle.ups_service.specs.Law.{is_legal};
 ghost use Rattle.ups_restore.specs.Replaying.{IsWant, IsRecordOf, IsFailure, AreOf, GoesOnBy, StopsAtRecord};
 
@@ -23,6 +24,7 @@ pub fn restore_one<A: Allocator + Copy>(
     stored: &Record<A>,
 ) -> Result<(), RestoreRefusal>
     ensures entered { OnOk result (GoesOnBy manager.old.history (stored.now ∷ []) manager.new.history) }
+    ensures written { OnOk result (All (λ e. IsWritableEntry e) manager.old.history → All (λ e. IsWritableEntry e) manager.new.history) }
     ensures only { (e : Entry A) → IsRecordOf manager.old.settings manager.old.history stored.now e → MatchResult result (λ _. manager.new.history ≡ manager.old.history ++ e ∷ []) IsWant }
     ensures why { IfErr result (IsFailure manager.old.settings manager.old.history stored.now) }
     ensures stays { OnErr result (manager.new.history ≡ manager.old.history) }

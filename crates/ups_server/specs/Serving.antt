@@ -1,5 +1,5 @@
 -- A server that does what its command line asks.
-use Rattle.std.specs.Prelude.{◌≡◌, ℕ, ◌+◌, ◌-◌, min, max, Bool, List, [], codes, length, is_some, option_map, unwrap_or, Option, None, Some, MatchOption}
+use Rattle.std.specs.Prelude.{◌≡◌, ℕ, ◌+◌, ◌-◌, min, max, Bool, false, List, [], codes, length, is_some, option_map, string_bytes, unwrap_or, Option, None, Some, MatchOption}
 use Rattle.std.specs.Global.{Global}
 use Rattle.atomic_table.specs.Seated.{TableId}
 use Rattle.clap.specs.Matches.{first_value}
@@ -10,7 +10,6 @@ use Rattle.ups_ledger.specs.declared.keeper.Keeper.{Keeper}
 use Rattle.ups_ledger.specs.declared.ledger.Ledger.{Ghosts}
 use Rattle.ups_ledger.specs.Keeping.{IsKept, IsSafe}
 use Rattle.ups_life.specs.declared.entry.Entry.{Entry}
-use Rattle.ups_life.specs.Limits.{history_limit}
 use Rattle.ups_manager.specs.declared.manager.TheConstants.{LASTING_LIMIT}
 use Rattle.ups_life.specs.Settings.{Settings}
 use Rattle.ups_net.specs.Working.{Ran}
@@ -30,14 +29,9 @@ deliverers_of workers watchers = max 1 (min (min watchers 8) (workers_limit + 1 
 abbrev pub seats_of : ℕ → ℕ → ℕ
 seats_of workers watchers = workers + deliverers_of workers watchers + 1
 
--- the limit of the history: it has no end, unless it is kept in a store
-abbrev pub limit_asked : {X : Type 0} → Option X → ℕ
-limit_asked None = LASTING_LIMIT
-limit_asked (Some store) = history_limit
-
--- the settings of the manager that the command line asks for
+-- the settings of the manager that the command line asks for; its history has no end
 abbrev pub settings_asked : ServeArguments → Settings
-settings_asked asked = record { peers = asked.peers.items; keep = asked.keep; offset = asked.offset; limit = limit_asked asked.store }
+settings_asked asked = record { peers = asked.peers.items; keep = asked.keep; offset = asked.offset; limit = LASTING_LIMIT }
 
 -- how the threads of the server work: with its title, its local time, its limits and its watchers; each worker has
 -- `to_serve` associations to serve, and the sweeper and each deliverer have `to_make` rounds to make
@@ -47,6 +41,8 @@ pub record AreAsked (options : ServerOptions) (asked : ServeArguments) (to_serve
   pub limits : options.limits ≡ asked.limits
   pub watchers : options.watchers ≡ asked.watchers
   pub verbose : options.verbose ≡ asked.verbose
+  pub audit : options.audit ≡ asked.audit
+  pub metrics : option_map (λ m. string_bytes m.path) options.metrics ≡ option_map (λ w. w.now) asked.metrics
   pub associations : options.associations ≡ to_serve
   pub rounds : options.rounds ≡ to_make
 
@@ -72,22 +68,26 @@ pub record AreWords (found : Found) (asked : ServeArguments) : Type 0 where
   pub idle : SaysIdle (first_value found (codes "idle")) asked.limits.idle
   pub timeout : SaysTimeout (first_value found (codes "timeout")) asked.limits.timeout
   pub delivery_timeout : SaysDeliveryTimeout (first_value found (codes "delivery-timeout")) asked.limits.delivery_timeout
+  pub check : IsFlag found (codes "check") asked.check
   pub verbose : IsFlag found (codes "verbose") asked.verbose
+  pub audit : IsFlag found (codes "audit") asked.audit
   pub store : option_map (λ w. w.now) asked.store ≡ first_value found (codes "store")
   pub leave_out : IsFlag found (codes "store-leave-out") asked.choices.may_leave_out
   pub compact : IsFlag found (codes "compact") asked.choices.may_compact
   pub other_settings : IsFlag found (codes "store-other-settings") asked.choices.may_change_terms
+  pub metrics : option_map (λ w. w.now) asked.metrics ≡ first_value found (codes "metrics")
 
 -- without a store a server begins with no history, and otherwise as one does on its file
 abbrev pub BeginsOn : {A : Type 0} → (List ℕ → StartChoices → Settings → List (Entry A) → Type 0) → ServeArguments → Settings → List (Entry A) → Type 0
 BeginsOn Begins asked settings history = MatchOption asked.store (history ≡ []) (λ file. Begins file.now asked.choices settings history)
 
--- A server has run as the words of a command line ask: its manager opened with the settings that they ask for, without
--- history if they name no store, and otherwise with that with which a server begins on it; and its threads have done what
--- they ask for, or none has begun.
+-- A server has run as the words of a command line ask: they ask for more than a look; its manager opened with the settings
+-- that they ask for, without history if they name no store, and otherwise with that with which a server begins on it; and its
+-- threads have done what they ask for, or none has begun.
 pub record RanAsWords {A : Type 0} (found : Found) (associations rounds : ℕ) (begun : Bool) (Begins : List ℕ → StartChoices → Settings → List (Entry A) → Type 0) (table : TableId) (opening : State A) (news : List (PassView A)) : Type 0 where
   pub asked : ServeArguments
   pub words : AreWords found asked
+  pub serves : asked.check ≡ false
   pub settings : opening.settings ≡ settings_asked asked
   pub begins : BeginsOn Begins asked opening.settings opening.history
   pub ran : RanAsAsked asked associations rounds begun (passes_from table opening 1 (seats_of asked.limits.workers (length asked.watchers.items))) news

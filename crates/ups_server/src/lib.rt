@@ -2,9 +2,11 @@
 //! thread has done as much as it should. `ups_args` parses the words of the command line.
 #![tactic(auto)]
 
+mod checking;
 mod opener;
 mod serving;
 mod telling;
 
+pub use checking::check_words;
 pub use opener::{StoreOpener, Unopened};
 pub use serving::{ClosedServer, RanServer, answer_network, serve_words};

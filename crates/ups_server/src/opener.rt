@@ -48,4 +48,17 @@ pub trait StoreOpener<'a, L: Ledger> {
         ensures safe { IfOk result (λ kept. LeavesFirst L.Ledger kept.0 manager.new.history kept.1) }
         ensures begins { IfOk result (λ kept. L.is_sound kept.0 → begins self.now file.now choices manager.old.settings manager.new.history) }
         ensures all { IfOk result (λ kept. kept.1 ≡ length manager.new.history) };
+
+    /// Looks at the store in a file as a start with the settings of a manager does first, without a start: no request is
+    /// entered, and no run begins. A store that another process uses is not read.
+    ///
+    /// # Errors
+    ///
+    /// Memory; Told after printing why a start would not use the store.
+    fn look(
+        &self,
+        file: &'a str,
+        choices: StartChoices,
+        manager: &Manager<Global>,
+    ) -> Result<(), Unopened>;
 }

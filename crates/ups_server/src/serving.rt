@@ -1,6 +1,6 @@
 //! Associations over TCP, and event reports.
 
-ghost use Rattle.std.specs.Prelude.{◌≡◌, ◌≢◌, ◌≤◌, ◌+◌, ℕ, [], All, false, length, is_some, None, IfErr, IfOk, IfSome};
+ghost use Rattle.std.specs.Prelude.{◌≡◌, ◌≢◌, ◌≤◌, ◌+◌, ℕ, [], All, false, length, is_some, option_map, string_bytes, None, IfErr, IfOk, IfSome};
 ghost use Rattle.clap.specs.Matches.{found_of};
 ghost use Rattle.ups_peers.specs.Limits.{workers_limit};
 ghost use Rattle.ups_settings.specs.Refusal.{refusal};
@@ -23,12 +23,11 @@ use std::sync::Wait;
 use std::thread::Threads;
 use std::time::Clock;
 use std::{io, str};
-use ups_args::{ArgumentFault, ServeArguments, serve_arguments};
+use ups_args::{ArgumentFault, ServeArguments, VERSION, serve_arguments};
 use ups_assoc::Config;
 use ups_ledger::{Commits, Keeper, Keeping, Ledger};
-use ups_life::MAX_HISTORY;
 use ups_manager::Manager;
-use ups_net::{Door, Network, ServerOptions, ServerState, run};
+use ups_net::{Door, MetricsFile, Network, ServerOptions, ServerState, run};
 use ups_peers::MAX_WORKERS;
 use ups_turn::{Desk, Pass};
 
@@ -122,6 +121,7 @@ fn listen<R: Network + Print + Log>(rt: &R, asked: &ServeArguments<'_>) -> io::R
 fn options_of(
     alloc: Global,
     asked: ServeArguments<'_>,
+    metrics: Option<MetricsFile>,
     associations: u64,
     rounds: u64,
 ) -> ServerOptions
@@ -130,6 +130,8 @@ fn options_of(
     ensures limits { result.limits ≡ asked.entry.limits }
     ensures watchers { result.watchers ≡ asked.entry.watchers }
     ensures verbose { result.verbose ≡ asked.entry.verbose }
+    ensures audit { result.audit ≡ asked.entry.audit }
+    ensures metrics { result.metrics ≡ metrics }
     ensures associations { result.associations ≡ associations }
     ensures rounds { result.rounds ≡ rounds }
 {
@@ -139,6 +141,7 @@ fn options_of(
         limits,
         watchers,
         verbose,
+        audit,
         ..
     } = asked;
     ServerOptions {
@@ -148,7 +151,24 @@ fn options_of(
         associations,
         rounds,
         verbose,
+        audit,
         watchers,
+        metrics,
+    }
+}
+
+/// Returns the file for the numbers of a server, if the command line names one.
+///
+/// Errors: lack of memory.
+fn metrics_of(alloc: Global, file: Option<&str>) -> Result<Option<MetricsFile>, AllocError>
+    ensures { IfOk result (λ metrics. option_map (λ m. string_bytes m.path) metrics ≡ option_map (λ w. w.now) file.entry) }
+{
+    match file {
+        Some(file) => Ok(Some(MetricsFile {
+            path: file.to_string(alloc)?,
+            version: VERSION.to_string(alloc)?,
+        })),
+        None => Ok(None),
     }
 }
 
@@ -168,21 +188,19 @@ fn deliverers_of(workers: u32, watchers: usize) -> u32
     wanted.min(seats).max(1)
 }
 
-/// Returns a manager without requests, with the settings of the command line. Its history has no end, unless it is kept
-/// in a store.
+/// Returns a manager without requests, with the settings of the command line. Its history has no end.
 ///
 /// Errors: lack of memory.
-fn new_manager(alloc: Global, asked: &ServeArguments<'_>) -> Result<Manager<Global>, AllocError>
+pub(crate) fn new_manager(
+    alloc: Global,
+    asked: &ServeArguments<'_>,
+) -> Result<Manager<Global>, AllocError>
     requires few { length asked.now.peers.items ≤ peer_limit }
     requires allowed { refusal asked.now.peers.items asked.now.offset history_limit ≡ None }
     ensures settings { IfOk result (λ manager. manager.settings ≡ settings_asked asked.now) }
     ensures empty { IfOk result (λ manager. manager.history ≡ []) }
 {
-    let made = match asked.store {
-        Some(_) => Manager::new(alloc, &asked.peers, asked.keep, asked.offset, MAX_HISTORY),
-        None => Manager::lasting(alloc, &asked.peers, asked.keep, asked.offset),
-    };
-    match made {
+    match Manager::lasting(alloc, &asked.peers, asked.keep, asked.offset) {
         Ok(manager) => Ok(manager),
         Err(_) => Err(AllocError),
     }
@@ -271,7 +289,10 @@ where
     let Ok((desk, passes)) = Desk::open(alloc, manager, seats) else {
         return Err(AllocError);
     };
-    let options = options_of(alloc, asked, associations, rounds);
+    let Ok(metrics) = metrics_of(alloc, asked.metrics) else {
+        return Err(AllocError);
+    };
+    let options = options_of(alloc, asked, metrics, associations, rounds);
     let (begun, passes, keeper) = run(rt, &state, &desk, passes, &options, keeper);
     Ok(RanServer {
         begun,
@@ -352,7 +373,8 @@ where
     }
 }
 
-/// Parses the words of `serve`, and runs the server as [`answer_network`] does.
+/// Parses the words of `serve`, and runs the server as [`answer_network`] does. Returns None also for words that ask for
+/// a look alone, which [`check_words`](crate::check_words) takes.
 ///
 /// # Errors
 ///
@@ -372,5 +394,8 @@ where
     ensures safe { IfOk result (λ left. IfSome left (λ server. AreSafe L.Ledger server.keeper (seen_last server.passes.items))) }
 {
     let asked = serve_arguments(rt.alloc(), matches)?;
+    if asked.check {
+        return Ok(None);
+    }
     Ok(answer_network(rt, opener, asked, associations, rounds)?)
 }

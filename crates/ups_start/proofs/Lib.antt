@@ -1,4 +1,5 @@
 mod Behind
+mod Carried
 mod Digested
 mod First
 mod Leaves

@@ -1,5 +1,5 @@
 -- Records that were entered or left out one behind the other.
-use Rattle.std.proofs.Common.{◌≡◌, ◌⊎◌, inl, inr, rules, ℕ, Bool, false, List, [], ◌∷◌, ◌++◌, map, refl, sym, subst, ap, ◌∙◌, arith, append_assoc}
+use Rattle.std.proofs.Common.{◌≡◌, inl, inr, rules, ℕ, Bool, false, List, [], ◌∷◌, ◌++◌, map, refl, sym, subst, ap, ◌∙◌, arith, append_assoc}
 use Rattle.std.proofs.lemmas.List.{append-nil, map-append}
 use Rattle.ups_life.specs.declared.entry.Entry.{Entry}
 use Rattle.ups_life.specs.Settings.{Settings}
@@ -68,6 +68,11 @@ all_kept s h (r ∷ rs) (Entered ∷ os) after b = on_by h b.0 after r rs b.1 (a
 all_kept s h (r ∷ rs) (LeftOut ∷ os) after b = let allowed = b.1.0 in absurd (grind arith)
 all_kept s h [] (o ∷ os) after b = absurd b
 all_kept s h (r ∷ rs) [] after b = absurd b
+
+-- a history that was empty has then the entries of all records
+pub whole_if_kept : (s : Settings) (h : List (Entry Global)) (rs : List (Record Global)) (may : Bool) (c : Restoration) (after : List (Entry Global)) → h ≡ [] → may ≡ false → AreTaken s h rs may c after → rs ≡ map recorded after
+whole_if_kept s h rs may c after none stay taken =
+    sym (all_kept s h rs taken.0 after (subst (λ (b : Bool). BecomeAll s h rs b taken.0 after) stay taken.1) ∙ ap (λ (es : List (Entry Global)). map recorded es ++ rs) none)
 
 -- where none was left out, the history has gone on by the entries of these records
 pub all_entered : {A : Type 0} (s : Settings) (h : List (Entry A)) (rs : List (Record A)) (may : Bool) (c : Restoration) (after : List (Entry A)) → AreTaken s h rs may c after → c.left_out ≡ 0 → map recorded after ≡ map recorded h ++ rs

@@ -8,3 +8,4 @@ pub mod Anew
 pub mod Alike
 pub mod Reopened
 pub mod Digested
+pub mod Carried

@@ -1,25 +1,27 @@
 //! The start of a server on a store.
 
-ghost use Rattle.std.specs.Prelude.{◌≡◌, ◌⊎◌, [], map, length, IfOk, IsTrue};
+ghost use Rattle.std.specs.Prelude.{◌≡◌, ◌⊎◌, [], map, length, false, All, IfOk, IfSome, OnOk, IsTrue};
 ghost use Rattle.sqlite_trees.specs.View.{View, IsClean};
 ghost use Rattle.ups_journal.specs.Columns.{recorded};
+ghost use Rattle.ups_journal.specs.Writable.{IsWritableEntry};
 ghost use Rattle.ups_compact.specs.Compacting.{compacted};
 ghost use Rattle.ups_life.specs.Steps.{past};
 ghost use Rattle.ups_ledger.specs.Keeping.{IsKept, IsSafe};
 ghost use Rattle.ups_restore.specs.declared.acknowledging.TheConstants.{COMPACTOR};
-ghost use Rattle.ups_store.specs.Shown.{requests_shown, requests, shown_by, all_of, given_out};
+ghost use Rattle.ups_store.specs.Shown.{requests_shown, requests, shown_by, all_of, given_out, has_ended};
 ghost use Rattle.ups_store.specs.Digest.{digest_of};
 ghost use Rattle.ups_start.specs.Digested.{AreDigested};
 ghost use Rattle.ups_start.specs.Opened.{BeginsFrom};
 ghost use Rattle.ups_start.specs.Started.{said, moment_in, without_compaction};
 
-use crate::compacting::{compacted, emptied};
+use crate::carrying::compacted_anew;
+use crate::compacting::{compacted, emptied, tell_compacted};
 use crate::fault::StartFault;
 use crate::ledger::StoreLedger;
 use crate::place::StorePlace;
 use crate::reading::Reading;
 use crate::rewriting::rewritten;
-use crate::taking::take_all;
+use crate::taking::{Remembered, take_all};
 use crate::terms::check_terms;
 use log::{Log, info, warn};
 use sqlite_trees::store::{Alter, Store};
@@ -148,6 +150,64 @@ fn settled<S: Store + Drop, R: Log>(
     Ok(begun)
 }
 
+/// Returns a manager with the compacted history of one that has entered all requests of a store, if a compaction is
+/// allowed and pays, and none of the requests may be left out.
+///
+/// Errors: Read, Memory, Compact.
+fn fresh_of<S: Store>(
+    alloc: Global,
+    reading: &mut Reading<S>,
+    choices: StartChoices,
+    about: &Run<'_>,
+    manager: &Manager<Global>,
+) -> Result<Option<Manager<Global>>, StartFault>
+    requires ended { IsTrue (has_ended reading.old.replay) }
+    requires written { All (λ e. IsWritableEntry e) manager.now.history }
+    requires whole { choices.may_leave_out ≡ false → IsClean (shown_by reading.old.replay) → said (all_of reading.old.replay) ≡ map recorded manager.now.history }
+    requires digested { AreDigested reading.old }
+    ensures allowed { IfOk result (λ found. IfSome found (λ fresh. IsTrue choices.may_compact)) }
+    ensures compacted { IfOk result (λ found. IfSome found (λ fresh. IsClean (shown_by reading.new.replay) → past fresh.history ≡ compacted COMPACTOR (moment_in about.now) manager.now.settings (past manager.now.history))) }
+    ensures same { OnOk result (IsClean (shown_by reading.new.replay) → all_of reading.new.replay ≡ all_of reading.old.replay) }
+    ensures ended { OnOk result (IsTrue (has_ended reading.new.replay)) }
+    ensures clean { IsClean (shown_by reading.new.replay) → IsClean (shown_by reading.old.replay) }
+    ensures digested { OnOk result (AreDigested reading.new) }
+    ensures settings { IfOk result (λ found. IfSome found (λ fresh. fresh.settings ≡ manager.now.settings)) }
+{
+    if !choices.may_compact || choices.may_leave_out {
+        return Ok(None);
+    }
+    compacted_anew(alloc, reading, about, manager)
+}
+
+/// Replaces the requests of the store and the history of the manager by those of a fresh one.
+///
+/// Errors: Uncompacted. The store keeps its requests, or may have the new ones if the commit failed; the manager is as it
+/// was.
+fn replaced<S: Store + Drop, R: Log>(
+    alloc: Global,
+    telling: &R,
+    begun: StartedRun<S>,
+    about: &Run<'_>,
+    manager: &mut Manager<Global>,
+    fresh: Manager<Global>,
+) -> Result<StartedRun<S>, Unsettled>
+    requires settings { fresh.settings ≡ manager.old.settings }
+    ensures history { OnOk result (manager.new.history ≡ fresh.history) }
+    ensures kept { IfOk result (λ b. IsClean (requests_shown b.store) → said (requests b.store) ≡ map recorded manager.new.history) }
+    ensures is_open { IfOk result (λ b. IsClean (requests_shown b.store) → IsTrue (requests_shown b.store).is_open) }
+    ensures clean { IfOk result (λ b. IsClean (requests_shown b.store) → IsClean (requests_shown begun.store)) }
+    ensures settings { manager.new.settings ≡ manager.old.settings }
+{
+    match rewritten(alloc, begun, about, &fresh) {
+        Ok(begun) => {
+            tell_compacted(telling, manager.entries(), fresh.entries());
+            *manager = fresh;
+            Ok(begun)
+        }
+        Err(fault) => Err(Unsettled::Uncompacted(fault)),
+    }
+}
+
 /// Enters the requests of a store that was just opened, and begins a run in it, if the settings permit as much as the
 /// terms of its last run; replaces the requests if some were left out, or if a compaction is allowed and pays.
 ///
@@ -178,23 +238,38 @@ fn begin_over<S: Alter + Drop, R: Clock + Log>(
         Err(fault) => return Err(Unsettled::Failed(fault)),
     }
     let mut reading = Reading::over(replay);
-    let counts = match take_all(telling, alloc, &mut reading, manager, choices.may_leave_out) {
+    let counts = match take_all(
+        telling,
+        alloc,
+        &mut reading,
+        manager,
+        choices.may_leave_out,
+        Remembered::of(choices.may_leave_out),
+    ) {
         Ok(counts) => counts,
         Err(fault) => return Err(Unsettled::Failed(fault)),
+    };
+    let fresh = match fresh_of(alloc, &mut reading, choices, about, manager) {
+        Ok(fresh) => fresh,
+        Err(fault) => return Err(Unsettled::Uncompacted(fault)),
     };
     let begun = match begin_run(reading, about) {
         Ok(begun) => begun,
         Err(fault) => return Err(Unsettled::Failed(fault)),
     };
-    settled(
-        alloc,
-        telling,
-        begun,
-        about,
-        manager,
-        counts.left_out,
-        choices.may_compact,
-    )
+    let may_compact = choices.may_compact && choices.may_leave_out;
+    match fresh {
+        Some(fresh) => replaced(alloc, telling, begun, about, manager, fresh),
+        None => settled(
+            alloc,
+            telling,
+            begun,
+            about,
+            manager,
+            counts.left_out,
+            may_compact,
+        ),
+    }
 }
 
 /// Opens the store at a place.

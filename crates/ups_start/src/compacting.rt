@@ -17,7 +17,7 @@ use log::{Log, info};
 use sqlite_trees::store::Store;
 use std::alloc::Global;
 use ups_life::{MAX_MOMENT, MAX_PEERS};
-use ups_manager::Manager;
+use ups_manager::{LASTING_LIMIT, Manager};
 use ups_restore::compact_into;
 use ups_store::Run;
 
@@ -35,20 +35,20 @@ pub(crate) fn emptied(
     if peers.len() > MAX_PEERS {
         return Err(StartFault::Memory);
     }
-    match Manager::new(
-        alloc,
-        peers,
-        manager.keep(),
-        manager.offset(),
-        manager.limit(),
-    ) {
+    let (keep, offset, limit) = (manager.keep(), manager.offset(), manager.limit());
+    let made = if limit == LASTING_LIMIT {
+        Manager::lasting(alloc, peers, keep, offset)
+    } else {
+        Manager::new(alloc, peers, keep, offset, limit)
+    };
+    match made {
         Ok(fresh) => Ok(fresh),
         Err(_) => Err(StartFault::Memory),
     }
 }
 
 /// Returns the time at which a run began, or the last one that has a date if it is later.
-fn moment_of(about: &Run<'_>) -> u64
+pub(crate) fn moment_of(about: &Run<'_>) -> u64
     ensures is { result ≡ moment_in about.now }
     ensures dated { IsMoment result }
 {
@@ -85,7 +85,7 @@ pub(crate) fn compacted_to<S: Store + Drop>(
 }
 
 /// Logs that a store was compacted.
-fn tell_compacted<R: Log>(telling: &R, before: usize, after: usize) {
+pub(crate) fn tell_compacted<R: Log>(telling: &R, before: usize, after: usize) {
     info!(telling; target: "upsd", "store: compacted from {before} requests to {after}");
 }
 

@@ -3,6 +3,7 @@
 #![tactic(auto)]
 
 mod beginning;
+mod carrying;
 mod compacting;
 mod comparing;
 mod fault;
@@ -30,7 +31,7 @@ pub use making::create;
 pub use place::StorePlace;
 pub use shrinking::{Compacted, compact};
 pub use sqlite_disk::Start;
-pub use terms::last_terms;
+pub use terms::{last_terms, look};
 pub use ups_restore::CompactFault;
 pub use ups_store::{OpenFault, Replay, RequestStore, Run, StoreFault};
 pub use ups_terms::{Difference, StartChoices, Terms};

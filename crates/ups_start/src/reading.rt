@@ -46,4 +46,14 @@ impl<S: Store> Reading<S> {
             Err(fault) => Err(fault),
         }
     }
+
+    /// Goes back to before the first request, once all have been returned.
+    pub(crate) fn again(&mut self)
+        ensures first { IsTrue (has_ended self.old.replay) → given_out self.new.replay ≡ [] }
+        ensures same { shown_by self.new.replay ≡ shown_by self.old.replay }
+        ensures digested { IsTrue (has_ended self.old.replay) → IsDigested self.new }
+    {
+        self.replay.again();
+        self.digest = 0;
+    }
 }

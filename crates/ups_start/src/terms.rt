@@ -128,3 +128,23 @@ pub fn last_terms<P: StorePlace>(
         None => Ok(None),
     }
 }
+
+/// Looks at the store at a place as a start does first: opens it, and checks that the settings of a manager permit as much
+/// as the terms of the last run on it, or logs that they do not if that is allowed. Begins no run.
+///
+/// # Errors
+///
+/// Open, Read, Terms, UnreadableTerms, Memory.
+pub fn look<P: StorePlace, R: Log>(
+    alloc: Global,
+    telling: &R,
+    place: &P,
+    manager: &Manager<Global>,
+    may_change: bool,
+) -> Result<(), StartFault>
+    ensures { OnOk result (may_change ≡ false → (found : View) × P.finds place.now found × (read : Replay P.Store P.Store.Store) × (IsClean (shown_by read) → PermitsNoted manager.now.settings (terms_shown found))) }
+{
+    let mut replay = opened(place)?;
+    check_terms(alloc, telling, &mut replay, manager, may_change)?;
+    Ok(())
+}

@@ -241,6 +241,17 @@ impl<S: Store> Replay<S> {
         self.take()
     }
 
+    /// Goes back to before the first request, once `next_request` has returned None; until then it does nothing.
+    pub fn again(&mut self)
+        ensures first { IsTrue (has_ended self.old) → given_out self.new ≡ [] }
+        ensures same { shown_by self.new ≡ shown_by self.old }
+    {
+        if self.phase == Phase::Ended {
+            self.count = 0;
+            self.phase = Phase::Fresh;
+        }
+    }
+
     /// Returns the store once `next_request` has returned None, or else None.
     pub fn finish(self) -> Option<RequestStore<S>>
     where

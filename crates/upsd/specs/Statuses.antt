@@ -1,5 +1,5 @@
 -- The exit statuses of the program.
-use Rattle.std.specs.Prelude.{ℕ, Result, Ok, Err}
+use Rattle.std.specs.Prelude.{ℕ, Bool, true, false, Result, Ok, Err}
 use Rattle.clap.specs.declared.error.kind.ErrorKind.{ErrorKind}
 use Rattle.clap.specs.declared.error.kind.ErrorKind.TheVariants as kinds
 use Rattle.ups_session.specs.declared.fault.End.{End}
@@ -27,6 +27,11 @@ abbrev pub script_status : Result Unit ScriptFault → ExitStatus
 script_status (Ok done) = Done
 script_status (Err scripts.Memory) = Memory
 script_status (Err fault) = Stopped
+
+-- the status of a look at what a start would find: 0 if a server can start, as far as that can be seen, and 2 if it can't
+abbrev pub checked_status : Bool → ExitStatus
+checked_status true = Done
+checked_status false = Stopped
 
 -- the status of a command line that the parser does not accept: 0 if it asks for the help or the version, 3 for lack of
 -- memory, 1 for any other

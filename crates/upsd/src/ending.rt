@@ -2,7 +2,7 @@
 
 ghost use Rattle.std.specs.Prelude.{◌≡◌};
 ghost use Rattle.clap.specs.Values.{kind_of};
-ghost use Rattle.upsd.specs.Statuses.{exit_code, parse_status, script_status, session_status};
+ghost use Rattle.upsd.specs.Statuses.{checked_status, exit_code, parse_status, script_status, session_status};
 
 use clap::error::ErrorKind;
 use std::alloc::AllocError;
@@ -96,6 +96,17 @@ pub(crate) fn server_status<L: Ledger>(
         return Err(AllocError);
     }
     Ok(ExitStatus::Done)
+}
+
+/// Returns how the program ends after a look at what a start would find.
+pub(crate) fn checked_status(can_start: bool) -> ExitStatus
+    ensures { result ≡ checked_status can_start }
+{
+    if can_start {
+        ExitStatus::Done
+    } else {
+        ExitStatus::Stopped
+    }
 }
 
 /// Prints why the words of a command line are refused, and returns how the program ends.

@@ -10,12 +10,14 @@ mod ending;
 mod gate;
 mod hexing;
 mod limits;
+mod naming;
 mod piping;
 mod place;
 mod scripting;
 mod storing;
 
-use crate::ending::{refuse, server_status};
+use crate::ending::{checked_status, refuse, server_status};
+use crate::naming::with_peers;
 use crate::scripting::answer_script;
 use crate::storing::{Stores, perform_compact, perform_init, terms_asked};
 use clap::ArgMatches;
@@ -35,7 +37,7 @@ use ups_args::{PipeArguments, command, pipe_arguments, script_arguments};
 use ups_net::{LineStyle, LossyLog, Network};
 pub use ups_net::{ServerOptions, work};
 use ups_peers::TURNS;
-pub use ups_server::{RanServer, answer_network, serve_words};
+pub use ups_server::{RanServer, answer_network, check_words, serve_words};
 pub use ups_session::{End, SessionFault, WatchedReader, WatchedWriter};
 
 /// Answers one association from standard input to standard output, prints its fault, and returns how the program ends.
@@ -96,7 +98,25 @@ fn perform<R: Input + Print + Eprint + AllocGlobal>(
     }
 }
 
-/// Runs `serve`, for as long as the program lives, and returns how the program ends.
+/// Looks at what a start of `serve` would find, and returns how the program ends.
+///
+/// Errors: lack of memory.
+fn check_network<'a, R>(
+    rt: &R,
+    stores: &Stores<'a, R>,
+    matches: &ArgMatches<'a>,
+) -> Result<ExitStatus, AllocError>
+where
+    R: Clock + Log + AllocGlobal + Eprint + Network,
+{
+    match check_words(rt, stores, matches) {
+        Ok(can_start) => Ok(checked_status(can_start)),
+        Err(fault) => refuse(rt, fault),
+    }
+}
+
+/// Runs `serve`, for as long as the program lives, or only looks at what a start would find, and returns how the program
+/// ends.
 ///
 /// Errors: lack of memory.
 fn perform_network<'a, R>(
@@ -107,6 +127,9 @@ fn perform_network<'a, R>(
 where
     R: Threads + Wait + Clock + Log + Sync + AllocGlobal + Print + Eprint + Network,
 {
+    if matches.get_flag("check") {
+        return check_network(rt, stores, matches);
+    }
     match serve_words(rt, stores, matches, u64::MAX, u64::MAX) {
         Ok(left) => server_status(left),
         Err(fault) => refuse(rt, fault),
@@ -240,6 +263,11 @@ fn main(rt: HostRuntime) -> ExitCode {
     };
     let text = match text_of(rt.alloc(), &words) {
         Ok(text) => text,
+        Err(fault) => return ExitCode::from(end_of(&rt, Err(fault))),
+    };
+    let words = match with_peers(&rt, words) {
+        Ok(Ok(words)) => words,
+        Ok(Err(status)) => return ExitCode::from(status),
         Err(fault) => return ExitCode::from(end_of(&rt, Err(fault))),
     };
     let terms = match terms_of(rt.alloc(), &words) {

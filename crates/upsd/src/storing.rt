@@ -18,14 +18,14 @@ use ups_args::{
 };
 use ups_journal::Record;
 use ups_ledger::{Keeper, Ledger, LedgerFault};
-use ups_life::{MAX_HISTORY, MAX_PEERS, Peer};
+use ups_life::{MAX_PEERS, Peer};
 use ups_manager::Manager;
 use ups_net::moment_of;
 use ups_server::{StoreOpener, Unopened};
 use ups_settings::ManagerFault;
 use ups_start::{
     CompactFault, OpenFault, Run, Start, StartFault, StoreFault, StoreLedger, StorePlace, begin,
-    compact, create, last_terms,
+    compact, create, last_terms, look,
 };
 use ups_terms::{StartChoices, Terms, terms_text};
 
@@ -176,6 +176,37 @@ fn open_at<'a, P: StorePlace, R: Clock + Log>(
     }
 }
 
+/// Looks at the store at a place as a start does first, and logs that it can be used, or that another process uses it; or
+/// prints why a start would not use it.
+///
+/// Errors: Memory; Told.
+fn look_at<P: StorePlace, R: Clock + Log>(
+    stores: &Stores<'_, R>,
+    place: &P,
+    file: &str,
+    choices: StartChoices,
+    manager: &Manager<Global>,
+) -> Result<(), Unopened> {
+    let (rt, telling) = (stores.rt, stores.telling);
+    match look(
+        rt.alloc(),
+        telling,
+        place,
+        manager,
+        choices.may_change_terms,
+    ) {
+        Ok(()) => {
+            info!(telling; target: "upsd", "store: it can be used");
+            Ok(())
+        }
+        Err(StartFault::Open(OpenFault::Busy)) => {
+            info!(telling; target: "upsd", "store: it is in use by another process, and was not read");
+            Ok(())
+        }
+        Err(fault) => Err(tell_unopened(rt, file, &fault)),
+    }
+}
+
 impl<'a, R: Clock + Log> StoreOpener<'a, ServerLedger<'a>> for Stores<'a, R> {
     ghost begins = { λ _ _ choices settings history. Resumes (ShowsFiles ⟦<AnyContents as Start>⟧) choices settings history };
 
@@ -190,9 +221,19 @@ impl<'a, R: Clock + Log> StoreOpener<'a, ServerLedger<'a>> for Stores<'a, R> {
         let Keeper { ledger, committed } = keeper;
         Ok((ServerLedger { ledger }, committed))
     }
+
+    fn look(
+        &self,
+        file: &'a str,
+        choices: StartChoices,
+        manager: &Manager<Global>,
+    ) -> Result<(), Unopened> {
+        let place = ServerPlace::new(self.rt, file);
+        look_at(self, &place, file, choices, manager)
+    }
 }
 
-/// Returns a manager without requests, with these settings.
+/// Returns a manager without requests, with these settings, whose history has no end.
 ///
 /// Errors: those of the settings; Memory.
 fn new_manager(
@@ -205,7 +246,7 @@ fn new_manager(
     ensures settings { IfOk result (λ manager. manager.settings ≡ compaction_settings keep offset peers.now) }
     ensures empty { IfOk result (λ manager. manager.history ≡ []) }
 {
-    Manager::new(alloc, peers, keep, offset, MAX_HISTORY)
+    Manager::lasting(alloc, peers, keep, offset)
 }
 
 /// A compaction as the command line asks for it.

@@ -3,6 +3,7 @@
 use crate::logging::journal::{
     Because, Overrun, Time, name_with, operation_of, reason_in, reason_of, title_of, warn_of,
 };
+use crate::logging::kinds::{ACTION_RESPONSE, RequestKind};
 use crate::logging::responses::is_failure;
 use crate::logging::tally::Tally;
 use log::{Level, Log, info, log, warn};
@@ -35,20 +36,34 @@ const END_OF_COMMAND: u8 = 3;
 /// The status of a response that others to the same request follow (PS3.4 section C.4.1.1.4).
 const PENDING: u16 = 0xff00;
 
-/// Returns the status in the command set of a response, or None if it has none. The rest is not read.
-fn status_in(command: &[u8]) -> Option<u16> {
+/// The numbers of Command Field and Action Type ID in a command set (PS3.7 annex E.1).
+const COMMAND_FIELD: u16 = 0x0100;
+
+const ACTION_TYPE: u16 = 0x1008;
+
+/// Returns the number in an element of a command set, or None if it has none. What follows is not read.
+fn number_in(command: &[u8], element: u16) -> Option<u16> {
     let mut rest = command;
     while rest.len() >= HEADER_LEN {
         let (header, after) = rest.split_at(HEADER_LEN);
         let number = u16::from_le_bytes([header[2], header[3]]);
         let len = u16::from_le_bytes([header[4], header[5]]) as usize;
         let value = after.get(..len)?;
-        if number == STATUS {
+        if number == element {
             return Some(u16::from_le_bytes([*value.first()?, *value.get(1)?]));
         }
         rest = &after[len..];
     }
     None
+}
+
+/// Returns the kind of the request that a response answers, by its command set. The rest is not read.
+fn kind_in(command: &[u8]) -> RequestKind {
+    let field = number_in(command, COMMAND_FIELD).unwrap_or(0);
+    if field == ACTION_RESPONSE {
+        return RequestKind::of_action(number_in(command, ACTION_TYPE).unwrap_or(0));
+    }
+    RequestKind::of(field)
 }
 
 /// Returns the called AE title from the beginning of an A-ASSOCIATE-RQ, or None if the bytes encode none (PS3.8 section
@@ -222,7 +237,7 @@ impl<'a> Account<'a> {
         if pending.as_slice() == bytes {
             return;
         }
-        let Some(status) = status_in(bytes) else {
+        let Some(status) = number_in(bytes, STATUS) else {
             return;
         };
         if status == PENDING {
@@ -255,9 +270,10 @@ impl<'a> Account<'a> {
     /// Counts a response that answers a request, and may log it: only then is all of it read.
     fn note_response<R: Log>(&self, rt: &R, alloc: Global, status: u16, bytes: &[u8]) {
         self.requests.set(self.requests.get().saturating_add(1));
-        self.tally.add_request();
+        let kind = kind_in(bytes);
+        self.tally.add_request(kind);
         let is_refused = is_failure(status);
-        let is_told = is_refused && self.tally.add_refusal(self.peer(alloc));
+        let is_told = is_refused && self.tally.add_refusal(kind, status, self.peer(alloc));
         if self.is_verbose || is_told {
             let level = if is_refused { Level::Warn } else { Level::Info };
             self.tell_command(rt, alloc, level, bytes);

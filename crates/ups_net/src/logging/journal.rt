@@ -4,6 +4,7 @@ ghost use Rattle.std.specs.Prelude.{◌≡◌};
 ghost use Rattle.ups_net.specs.Journal.{end_told};
 
 use crate::logging::digest::Digest;
+use crate::logging::kinds::RequestKind;
 use crate::logging::responses::Failures;
 use log::{Log, error, info, warn};
 use std::io::ErrorKind;
@@ -11,7 +12,6 @@ use std::time::Duration;
 use std::{fmt, str};
 use ups_dimse::OperationResult;
 use ups_ledger::{CommitFault, LedgerFault};
-use ups_life::MAX_HISTORY;
 use ups_pdu::{Ae, Uid};
 use ups_session::{End, SessionFault};
 
@@ -103,14 +103,9 @@ pub(crate) fn tell_all_taken<R: Log>(rt: &R, workers: u32, waiting: Option<u64>)
     }
 }
 
-/// Warns that the history has `entries` entries.
-pub(crate) fn tell_history<R: Log>(rt: &R, entries: u64) {
-    warn!(rt; target: "upsd", "serve: the history has {entries} of {} entries: restart before it is full, with --compact if there is a store", MAX_HISTORY);
-}
-
-/// Warns that the history is full.
-pub(crate) fn tell_full<R: Log>(rt: &R) {
-    warn!(rt; target: "upsd", "serve: the history is full with {} entries, and each change is answered 0213: restart, with --compact if there is a store", MAX_HISTORY);
+/// Warns that a store has `entries` requests, each of which a start reads.
+pub(crate) fn tell_growth<R: Log>(rt: &R, entries: u64) {
+    warn!(rt; target: "upsd", "serve: the store has {entries} requests, and a start reads each: restart with --compact");
 }
 
 /// Logs that new entries can't be committed to the store, and why: no answer that rests on them is sent. If the store
@@ -139,6 +134,11 @@ pub(crate) fn tell_more_of<R: Log>(rt: &R, more: u64, peer: &str) {
 /// Warns that `more` requests of others were refused beyond those that were logged.
 pub(crate) fn tell_more_refusals<R: Log>(rt: &R, more: u64) {
     warn!(rt; target: "upsd", "serve: {more} more requests of others were refused in the last minute");
+}
+
+/// Warns that the numbers of the server could not be written to a file, and why.
+pub(crate) fn tell_unwritten<R: Log>(rt: &R, file: &str, fault: ErrorKind) {
+    warn!(rt; target: "upsd", "serve: the numbers can't be written to {file}: {fault}");
 }
 
 /// Warns that more than `crowd` reports wait for a watcher.
@@ -417,23 +417,13 @@ impl fmt::Display for Time {
 pub(crate) fn operation_of(answered: &OperationResult) -> (&'static str, Option<Uid>) {
     match answered {
         OperationResult::EventReport { instance, .. } => ("N-EVENT-REPORT", *instance),
-        OperationResult::Create { instance } => ("N-CREATE", *instance),
-        OperationResult::Get { instance } => ("N-GET", *instance),
-        OperationResult::Set { instance } => ("N-SET", *instance),
-        OperationResult::Action { instance, action } => (action_name(*action), *instance),
-        OperationResult::Echo => ("C-ECHO", None),
-        OperationResult::Find => ("C-FIND", None),
-    }
-}
-
-/// Returns the name of an N-ACTION of this type (PS3.4 table CC.2-1).
-fn action_name(action: u16) -> &'static str {
-    match action {
-        1 => "Change",
-        2 => "Cancel",
-        3 => "Subscribe",
-        4 => "Unsubscribe",
-        5 => "Suspend",
-        _ => "N-ACTION",
+        OperationResult::Create { instance } => (RequestKind::Create.name(), *instance),
+        OperationResult::Get { instance } => (RequestKind::Get.name(), *instance),
+        OperationResult::Set { instance } => (RequestKind::Set.name(), *instance),
+        OperationResult::Action { instance, action } => {
+            (RequestKind::of_action(*action).name(), *instance)
+        }
+        OperationResult::Echo => (RequestKind::Echo.name(), None),
+        OperationResult::Find => (RequestKind::Find.name(), None),
     }
 }

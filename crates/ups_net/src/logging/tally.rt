@@ -1,6 +1,7 @@
 //! The counts of a server for its log.
 
 use crate::logging::journal::{tell_more_of, tell_more_refusals};
+use crate::logging::kinds::{KindCounts, RequestKind};
 use log::Log;
 use std::alloc::{AllocError, Global};
 use std::sync::atomic::{AtomicU64, Ordering};
@@ -71,6 +72,8 @@ pub struct Tally {
     associations: AtomicU64,
     requests: AtomicU64,
     refusals: AtomicU64,
+    /// The answered and the refused requests, by kind.
+    kinds: KindCounts,
     /// The refused requests in this minute, by peer.
     peers: Mutex<Vec<Refusals>>,
     /// The number of those without a line and of none of these peers.
@@ -85,6 +88,7 @@ impl Drop for Tally {
             associations: _,
             requests: _,
             refusals: _,
+            kinds: _,
             peers: _,
             others: _,
             warned: _,
@@ -99,6 +103,7 @@ impl Tally {
             associations: AtomicU64::new(0),
             requests: AtomicU64::new(0),
             refusals: AtomicU64::new(0),
+            kinds: KindCounts::new(alloc),
             peers: Mutex::new(Vec::new(alloc)),
             others: AtomicU64::new(0),
             warned: Mutex::new(Vec::new(alloc)),
@@ -111,15 +116,17 @@ impl Tally {
     }
 
     /// Counts an answered request.
-    pub(crate) fn add_request(&self) {
+    pub(crate) fn add_request(&self, kind: RequestKind) {
         self.requests.fetch_add(1, Ordering::SeqCst);
+        self.kinds.add(kind);
     }
 
     /// Counts a refused request of a peer (None if memory ran out), and returns whether it gets a line of its own.
     /// Never blocks.
     #[cold]
-    pub(crate) fn add_refusal(&self, peer: Option<String>) -> bool {
+    pub(crate) fn add_refusal(&self, kind: RequestKind, status: u16, peer: Option<String>) -> bool {
         self.refusals.fetch_add(1, Ordering::SeqCst);
+        self.kinds.add_refusal(kind, status);
         let is_told = match (self.peers.try_lock(), peer) {
             (Some(mut peers), Some(peer)) => add_of(&mut peers, peer),
             _ => None,
@@ -169,5 +176,10 @@ impl Tally {
     /// Returns how many requests were refused.
     pub(crate) fn refusals(&self) -> u64 {
         self.refusals.load(Ordering::SeqCst)
+    }
+
+    /// Returns how many requests of each kind were answered and refused.
+    pub(crate) fn kinds(&self) -> &KindCounts {
+        &self.kinds
     }
 }

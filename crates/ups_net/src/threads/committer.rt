@@ -84,6 +84,11 @@ impl Committer {
         }
     }
 
+    /// Returns whether the last try to commit failed.
+    pub(crate) fn is_failing(&self) -> bool {
+        self.is_failing
+    }
+
     /// Returns whether the ledger is lost, so that only a restart helps.
     pub(crate) fn is_lost(&self) -> bool {
         self.is_lost

@@ -15,9 +15,9 @@ use crate::threads::roster::{Presence, Roster, Share};
 use crate::threads::serving::{READ_AT_ONCE, Reader, commit_wait_of};
 use crate::threads::site::Site;
 use crate::transport::connection::{Connection, Inlet};
-use crate::transport::network::Network;
+use crate::transport::network::{MAX_ADDRESSES, Network};
 use crate::transport::outward::Departing;
-use crate::transport::patience::Patience;
+use crate::transport::patience::{Patience, left_of};
 use crate::transport::sink::Sink;
 use crate::transport::socket::{limit_of, tune};
 use crate::transport::wire::{Deadline, Wire, WirePeer};
@@ -25,6 +25,7 @@ use log::Log;
 use std::alloc::Global;
 use std::io::{self, BufReader, ErrorKind};
 use std::marker::Brand;
+use std::net::{SocketAddr, TcpStream};
 use std::sync::Wait;
 use std::sync::ledger::{Blank, Share as Part};
 use std::time::{Clock, Duration, Instant};
@@ -142,7 +143,30 @@ fn patience_of<R: Clock>(
     )
 }
 
-/// Connects to a watcher at the first address of its host, and returns how long the watcher may take from now on.
+/// Connects to the first of some addresses that takes the connection. They are tried in turn, each for an equal share of the
+/// time that is left for the opening.
+///
+/// Errors: NotFound without an address; that of the last one; TimedOut; those of the clock.
+fn connect_in_turn<R: Clock + Network>(
+    rt: &R,
+    addresses: &[SocketAddr],
+    patience: &Patience,
+) -> io::Result<TcpStream> {
+    let mut fault = io::Error::from(ErrorKind::NotFound);
+    let mut untried = addresses.len().min(MAX_ADDRESSES) as u32;
+    for address in addresses {
+        let left = left_of(rt, patience.opening, patience.since)?;
+        let share = left.checked_div(untried).unwrap_or(left);
+        match rt.connect(*address, Some(share)) {
+            Ok(stream) => return Ok(stream),
+            Err(error) => fault = error,
+        }
+        untried = untried.saturating_sub(1);
+    }
+    Err(fault)
+}
+
+/// Connects to a watcher at an address of its host, and returns how long the watcher may take from now on.
 ///
 /// Errors: those of the network, of looking the host up, and of the clock.
 fn connect<R: Clock + Network>(
@@ -152,11 +176,9 @@ fn connect<R: Clock + Network>(
     roster: &Roster,
     options: &ServerOptions,
 ) -> io::Result<(Connection, Patience)> {
-    let Some(address) = rt.look_up(watcher.host.as_str(), watcher.port)? else {
-        return Err(io::Error::from(ErrorKind::NotFound));
-    };
+    let addresses = rt.look_up(watcher.host.as_str(), watcher.port)?;
     let patience = patience_of(rt, presence, roster, options)?;
-    let stream = rt.connect(address, Some(patience.opening))?;
+    let stream = connect_in_turn(rt, &addresses, &patience)?;
     tune(&stream, Some(patience.opening))?;
     Ok((Connection::of(stream), patience))
 }

@@ -1,8 +1,9 @@
-//! A service that looks for sequences that were read as bytes in the keys of queries.
+//! A service that tells the log what it is asked.
 
 ghost use Rattle.std.specs.Prelude.{◌≡◌};
 
 use crate::logging::account::Account;
+use crate::logging::audit::{AuditedAsk, tell_done};
 use log::Log;
 use std::alloc::Global;
 use ups_dataset::{DataSet, Element, ITEM, Tag, Value, Vr};
@@ -10,8 +11,8 @@ use ups_life::{Ask, Reply};
 use ups_pdu::Ae;
 use ups_service::Service;
 
-/// A service that tells the account of an association about each query with a sequence that was read as bytes. It answers
-/// as the inner one does.
+/// A service that tells the account of an association about each query with a sequence that was read as bytes, and may
+/// log who did what. It answers as the inner one does.
 ///
 /// Such a sequence is Unknown (UN) and matches only as a whole value, since it came in Implicit VR Little Endian with a
 /// given length, and the dictionary lacks it (PS3.5 section 6.2.2). The answer does not say so.
@@ -20,17 +21,25 @@ pub(crate) struct Inspected<'a, S: Service<Global>, R: Log> {
     pub(crate) service: S,
     rt: &'a R,
     account: &'a Account<'a>,
+    /// Whether what is done is logged.
+    is_audited: bool,
 }
 
 impl<'a, S: Service<Global>, R: Log> Inspected<'a, S, R> {
     /// Wraps the service of an association.
-    pub(crate) fn new(rt: &'a R, account: &'a Account<'a>, service: S) -> Inspected<'a, S, R>
+    pub(crate) fn new(
+        rt: &'a R,
+        account: &'a Account<'a>,
+        is_audited: bool,
+        service: S,
+    ) -> Inspected<'a, S, R>
         ensures { result.service ≡ service }
     {
         Inspected {
             service,
             rt,
             account,
+            is_audited,
         }
     }
 
@@ -42,6 +51,21 @@ impl<'a, S: Service<Global>, R: Log> Inspected<'a, S, R> {
         let keys = keys.attributes();
         if let Some(tag) = unread_sequence(keys) {
             self.account.note_unread(self.rt, keys.allocator(), tag);
+        }
+    }
+
+    // Returns what to log of an ask if it is accepted.
+    fn noted(&self, ask: &Option<Ask<Global>>) -> Option<AuditedAsk> {
+        match ask {
+            Some(ask) if self.is_audited => AuditedAsk::of(ask),
+            _ => None,
+        }
+    }
+
+    // Logs what was done with this reply.
+    fn tell(&self, noted: &Option<AuditedAsk>, reply: &Reply<Global>) {
+        if let Some(noted) = noted {
+            tell_done(self.rt, self.account, noted, reply);
         }
     }
 }
@@ -106,6 +130,9 @@ impl<'a, S: Service<Global>, R: Log> Service<Global> for Inspected<'a, S, R> {
 
     fn answer(&mut self, ae: Ae, moment: u64, ask: &mut Option<Ask<Global>>) -> Reply<Global> {
         self.inspect(ask);
-        self.service.answer(ae, moment, ask)
+        let noted = self.noted(ask);
+        let reply = self.service.answer(ae, moment, ask);
+        self.tell(&noted, &reply);
+        reply
     }
 }

@@ -1,7 +1,7 @@
 //! What the sweeper checks and logs besides its sweeps.
 
 use crate::clock::moment_of;
-use crate::logging::journal::{tell_full, tell_history};
+use crate::logging::journal::tell_growth;
 use crate::threads::delivering::tell_unlogged;
 use crate::threads::numbers::{Numbers, tell_numbers};
 use crate::threads::options::ServerOptions;
@@ -12,28 +12,15 @@ use log::Log;
 use std::sync::Wait;
 use std::time::Clock;
 use ups_ledger::Keeping;
-use ups_life::MAX_HISTORY;
 use ups_peers::Watcher;
 
-/// Half of what a history holds.
-const HALF: u64 = MAX_HISTORY / 2;
-
-/// Nine tenths of what a history holds.
-const NINE_TENTHS: u64 = MAX_HISTORY / 10 * 9;
+/// The number of requests of a store after each of which its growth is logged.
+const GROWTH: u64 = 1_000_000;
 
 /// The number of seconds in a minute, and between two lines of numbers.
 pub(crate) const MINUTE: u64 = 60;
 
 const TEN_MINUTES: u64 = 600;
-
-/// Returns how many of its two marks, half and nine tenths of what it holds, a history with `entries` entries has
-/// reached.
-fn marks_reached(entries: u64) -> u32 {
-    if entries < HALF {
-        return 0;
-    }
-    if entries < NINE_TENTHS { 1 } else { 2 }
-}
 
 /// Something that is done once in a number of seconds.
 #[derive(Clone, Copy)]
@@ -63,10 +50,8 @@ impl Reminder {
 /// What the sweeper has logged.
 #[derive(Clone, Copy)]
 pub(crate) struct Monitor {
-    /// The number of marks of the history that were logged.
-    marks: u32,
-    /// When it was last logged that the history is full.
-    full: Reminder,
+    /// How often the growth of the store was reached that is logged.
+    growth: u64,
     /// When the last minute of refused requests ended.
     minute: Reminder,
     /// When the numbers were last logged.
@@ -85,8 +70,7 @@ impl Monitor {
     pub(crate) fn new<R: Clock>(rt: &R) -> Monitor {
         let done = moment_of(rt);
         Monitor {
-            marks: 0,
-            full: Reminder::of(MINUTE),
+            growth: 0,
             minute: Reminder {
                 done,
                 pause: MINUTE,
@@ -98,25 +82,18 @@ impl Monitor {
         }
     }
 
-    /// Warns if a history with `entries` entries has reached more marks than were logged, and once a minute if it is
-    /// full.
-    fn look_at_history<R: Log>(&mut self, rt: &R, entries: u64, now: u64) {
-        if entries >= MAX_HISTORY {
-            if self.full.is_due(now) {
-                tell_full(rt);
-            }
-            return;
-        }
-        let reached = marks_reached(entries);
-        if reached > self.marks {
-            self.marks = reached;
-            tell_history(rt, entries);
+    /// Warns if a store with `entries` requests has grown by another million.
+    fn look_at_store<R: Log>(&mut self, rt: &R, entries: u64) {
+        let reached = entries / GROWTH;
+        if reached > self.growth {
+            self.growth = reached;
+            tell_growth(rt, entries);
         }
     }
 
-    /// Checks a server whose history has `entries` entries, and logs what there is to log: that the history has reached
-    /// a mark or is full if it is kept in a ledger (otherwise it has no end), that all workers are taken, what deliveries came to, how many requests were refused beyond
-    /// those logged, and its numbers every ten minutes.
+    /// Checks a server whose history has `entries` entries, and logs what there is to log: that its store has grown, that
+    /// all workers are taken, what deliveries came to, how many requests were refused beyond those logged, and its numbers
+    /// every ten minutes.
     pub(crate) fn look<K: Keeping, R: Wait + Clock + Log + Network>(
         &mut self,
         rt: &R,
@@ -126,7 +103,7 @@ impl Monitor {
     ) {
         let now = moment_of(rt);
         if state.commits.kept().is_some() {
-            self.look_at_history(rt, entries, now);
+            self.look_at_store(rt, entries);
         }
         state.door.tell_taken(rt, options.limits.workers);
         tell_deliveries(rt, &state.roster, &options.watchers);
@@ -134,17 +111,7 @@ impl Monitor {
             state.tally.end_minute(rt);
         }
         if self.numbers.is_due(now) {
-            let numbers = Numbers {
-                entries,
-                run: state.commits.run(),
-                committed: state.commits.kept(),
-                taken: state.door.taken(),
-                workers: options.limits.workers,
-                tally: &state.tally,
-                roster: &state.roster,
-                watchers: &options.watchers,
-            };
-            tell_numbers(rt, &numbers);
+            tell_numbers(rt, &Numbers::of(state, options, entries));
         }
     }
 }

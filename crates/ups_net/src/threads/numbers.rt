@@ -2,9 +2,12 @@
 
 use crate::logging::journal::title_of;
 use crate::logging::tally::Tally;
+use crate::threads::options::ServerOptions;
 use crate::threads::roster::Roster;
+use crate::threads::server_state::ServerState;
 use log::{Log, info};
 use std::fmt;
+use ups_ledger::Keeping;
 use ups_peers::Watcher;
 
 /// The numbers of a server, as a line of its log shows them.
@@ -23,6 +26,26 @@ pub(crate) struct Numbers<'a> {
     /// The roster, which knows how many reports wait for each of these watchers.
     pub(crate) roster: &'a Roster,
     pub(crate) watchers: &'a [Watcher],
+}
+
+impl<'a> Numbers<'a> {
+    /// Returns the numbers of a server whose history has `entries` entries.
+    pub(crate) fn of<K: Keeping>(
+        state: &'a ServerState<K>,
+        options: &'a ServerOptions,
+        entries: u64,
+    ) -> Numbers<'a> {
+        Numbers {
+            entries,
+            run: state.commits.run(),
+            committed: state.commits.kept(),
+            taken: state.door.taken(),
+            workers: options.limits.workers,
+            tally: &state.tally,
+            roster: &state.roster,
+            watchers: &options.watchers,
+        }
+    }
 }
 
 impl<'a> fmt::Display for Numbers<'a> {

@@ -145,9 +145,14 @@ impl Presence {
         self.holder.swap(FREE, Ordering::SeqCst) == WANTED
     }
 
+    /// Returns whether the watcher is away.
+    pub(crate) fn is_away(&self) -> bool {
+        self.pause.load(Ordering::SeqCst) > 0
+    }
+
     /// Returns whether the watcher is quick: neither away nor slow.
     pub(crate) fn is_quick(&self) -> bool {
-        self.pause.load(Ordering::SeqCst) == 0 && self.slow.load(Ordering::SeqCst) == 0
+        !self.is_away() && self.slow.load(Ordering::SeqCst) == 0
     }
 
     /// Returns whether a deliverer with this share delivers to the watcher now.

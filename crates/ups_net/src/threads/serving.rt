@@ -92,7 +92,7 @@ where
     } = site;
     let seated: Seated<'_, F, M, Global, R> = Seated::new(rt, desk, pass);
     let withheld = Withheld::new(rt, seated, wire.due(), share);
-    let mut inspected = Inspected::new(rt, account, withheld);
+    let mut inspected = Inspected::new(rt, account, options.audit, withheld);
     let mut gate = HostClock::new(rt);
     let mut writer = WatchedWriter::new(wire.writer());
     let ended = serve(

@@ -10,9 +10,11 @@ ghost use Rattle.ups_ledger.specs.Keeping.{HasWatched, KeepersGoOn};
 ghost use Rattle.ups_net.specs.Sweeping.{LooksIfKept, Sweeps, SweepsOnce};
 
 use crate::clock::moment_of;
+use crate::logging::audit::tell_swept;
 use crate::threads::committer::{Committer, REST, ROUND, left_of_round};
 use crate::threads::monitor::Monitor;
 use crate::threads::options::ServerOptions;
+use crate::threads::publisher::Publisher;
 use crate::threads::roster::Roster;
 use crate::threads::server_state::ServerState;
 use crate::threads::site::Site;
@@ -113,21 +115,23 @@ where
     keeper
 }
 
-/// Sweeps once, at the current moment.
-fn sweep_once<M: SharedService<Global>, R: Wait + Clock>(
+/// Sweeps once, at the current moment. If `is_audited`, logs how many steps that removed.
+fn sweep_once<M: SharedService<Global>, R: Wait + Clock + Log>(
     rt: &R,
     desk: &Desk<M, Global>,
     pass: &mut Pass<M, Global>,
     ae: Ae,
+    is_audited: bool,
 )
     requires here { pass.old.table ≡ desk.now.table }
     ensures sweeps { SweepsOnce ae pass.old pass.new }
     ensures stays { pass.new.table ≡ pass.old.table }
 {
     let moment = moment_of(rt);
-    let _ = desk
+    let reply = desk
         .at(rt, pass)
         .answer(ae, moment, &mut Some(Ask::Do(Request::Sweep)));
+    tell_swept(rt, is_audited, ae, &reply);
 }
 
 /// The most turns of a round in which requests are let go of.
@@ -216,7 +220,7 @@ fn count_of<L: Ledger>(keeper: &Option<Keeper<L>>) -> u64 {
 /// first, and releases the answers that wait for it. No contract says when. The ledger is returned, and has a beginning
 /// of the history that the pass has seen, if it had before. After each sweep it lets requests leave memory that nothing
 /// asked later can need, of those that are committed if a ledger is kept, checks the server, logs what there is to
-/// log (`Monitor`), and tells a supervisor that it works.
+/// log (`Monitor`), tells a supervisor that it works, and writes its numbers to a file if it has one (`Publisher`).
 pub fn sweep<M: SharedService<Global>, K: Keeping, L: Ledger, R>(
     rt: &R,
     state: &ServerState<K>,
@@ -241,6 +245,7 @@ where
         commits: &state.commits,
     };
     let mut monitor = Monitor::new(rt);
+    let mut publisher = Publisher::new(rt);
     let mut between = Round {
         entries: 0,
         committer: Committer::new(count_of(&keeper)),
@@ -249,10 +254,11 @@ where
     for round in 0..options.rounds {
         let is_first = round == 0;
         keeper = before_round(is_first, site, &state.roster, pass, keeper, &mut between);
-        sweep_once(rt, desk, pass, options.config.ae);
+        sweep_once(rt, desk, pass, options.config.ae, options.audit);
         let_go(rt, desk, pass, done_with(&keeper, pass.seen()));
         monitor.look(rt, state, options, pass.seen());
         tell_state(rt, state, options, &between.committer, pass.seen());
+        publisher.look(rt, state, options, &between.committer, pass.seen());
     }
     keeper
 }

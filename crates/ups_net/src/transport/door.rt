@@ -140,8 +140,8 @@ impl Door {
         !is_quiet
     }
 
-    // Returns how many connections wait to be accepted, or None if the system does not tell.
-    fn count_waiting<R: Network>(&self, rt: &R) -> Option<u64> {
+    /// Returns how many connections wait to be accepted, or None if the system does not tell.
+    pub(crate) fn count_waiting<R: Network>(&self, rt: &R) -> Option<u64> {
         rt.waiting_at(self.address().ok()?)
     }
 

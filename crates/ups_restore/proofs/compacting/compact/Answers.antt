@@ -3,7 +3,6 @@ use Rattle.ups_life.specs.Steps.{past}
 use Rattle.ups_compact.specs.Compacting.{left}
 use Rattle.ups_restore.specs.declared.acknowledging.TheConstants.{COMPACTOR}
 use Rattle.ups_restore.proofs.Leftover.{legal_all, legal_compacted, past_compacted, on_ok}
-use Rattle.ups_restore.proofs.Once.{named_once}
 use Rattle.ups_restore.proofs.compacting.compact.Goals as goal
 
 pub carry_each-requires-clause-legally : goal.carry_each-requires-clause-legally
@@ -27,4 +26,4 @@ returns-clause-only c = λ allowed.
     c.acknowledge.ensures.only
     (legal_compacted c.args.manager.now.settings c.carry_each.new.fresh.settings c.args.manager.now.history c.in_ok-steps.steps c.carry_each.new.fresh.history (c.in_ok-steps.ensures ∙ c.in_ok-held.ensures) is COMPACTOR c.args.moment
     (c.carry_each.ensures.settings ∙ c.requires.settings)
-    (c.a_compacted_history_is_legal.ensures.legal COMPACTOR c.args.moment c.args.manager.now.settings (past c.args.manager.now.history) c.whole.ensures.legal (named_once c.args.manager.now.settings allowed)))
+    (c.a_compacted_history_is_legal.ensures.legal COMPACTOR c.args.moment c.args.manager.now.settings (past c.args.manager.now.history) c.whole.ensures.legal allowed))

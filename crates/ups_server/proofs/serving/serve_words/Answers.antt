@@ -1,4 +1,4 @@
-use Rattle.std.proofs.Common.{refl}
+use Rattle.std.proofs.Common.{refl, rules}
 use Rattle.clap.specs.Matches.{found_of}
 use Rattle.ups_ledger.specs.Keeping.{AreSound}
 use Rattle.ups_server.specs.Serving.{AreWords}
@@ -19,14 +19,17 @@ returns-clause-ran g c =
       idle = e.idle;
       timeout = e.timeout;
       delivery_timeout = e.delivery_timeout;
+      check = e.check;
       verbose = e.verbose;
+      audit = e.audit;
       store = e.store;
       leave_out = e.leave_out;
       compact = e.compact;
       other_settings = e.other_settings;
+      metrics = e.metrics;
     } in
     let left = c.in_ok-answer_network.ensures in
-    by_words g.L.Ledger (found_of c.args.matches.now) c.args.associations c.args.rounds c.in_ok-asked.asked words c.in_ok-answer_network.field-0
+    by_words g.L.Ledger (found_of c.args.matches.now) c.args.associations c.args.rounds c.in_ok-asked.asked words (search rules) c.in_ok-answer_network.field-0
     (λ server file leave settings history. AreSound g.L.Ledger server.keeper → g.O.StoreOpener.begins c.args.opener.now file leave settings history) left.settings left.begins left.ran
 
 pub answer_network-requires-sync-R : goal.answer_network-requires-sync-R

@@ -1,7 +1,10 @@
 use Rattle.std.proofs.Common.{◌≡◌, List, [], ◌∷◌, ◌++◌, sym, subst, ap, ◌∙◌}
 use Rattle.std.proofs.lemmas.List.{map-append}
 use Rattle.std.specs.declared.alloc.Global.{Global}
+use Rattle.std.specs.Prelude.{All}
+use Rattle.ups_life.specs.declared.entry.Entry.{Entry}
 use Rattle.ups_journal.specs.declared.record.Record.{Record}
+use Rattle.ups_journal.specs.Writable.{IsWritableEntry}
 use Rattle.ups_restore.specs.Leaving.{AreTaken}
 use Rattle.sqlite_trees.specs.View.{IsClean}
 use Rattle.ups_store.specs.Shown.{shown_by, given_out}
@@ -21,11 +24,13 @@ loop-before-preserved g c =
       taken = λ clean.
           let s = step clean in
           let more : said (given_out new) ≡ said (given_out old) ++ s.1.0.asked ∷ [] = ap said s.1.1 ∙ map-append (λ r. r.asked) (given_out old) (s.1.0 ∷ []) in
-          subst (λ (rs : List (Record Global)). AreTaken first.settings first.history rs c.args.may_leave_out c.take_next.new.counts c.take_next.new.manager.history) (sym more)
+          subst (λ (es : List (Entry Global)). AreTaken first.settings first.history (said (given_out new)) c.args.may_leave_out c.take_next.new.counts es) (sym c.let_go.ensures.history)
+          (subst (λ (rs : List (Record Global)). AreTaken first.settings first.history rs c.args.may_leave_out c.take_next.new.counts c.take_next.new.manager.history) (sym more)
           (taken_more first.settings c.loop-before.manager.settings first.history (said (given_out old)) c.args.may_leave_out s.1.0.asked c.loop-before.manager.history c.take_next.new.manager.history c.loop-before.counts c.take_next.new.counts c.in-Some.field-0
-          inv.settings (inv.taken (before clean)) s.1.2 s.2);
+          inv.settings (inv.taken (before clean)) s.1.2 s.2));
       same = λ clean. (step clean).0 ∙ inv.same (before clean);
       clean = λ clean. inv.clean (before clean);
-      settings = c.take_next.ensures.settings ∙ inv.settings;
+      settings = c.let_go.ensures.settings ∙ (c.take_next.ensures.settings ∙ inv.settings);
       digested = c.in_ok-found.ensures.digested inv.digested;
+      written = λ w. subst (λ (es : List (Entry Global)). All (λ e. IsWritableEntry e) es) (sym c.let_go.ensures.history) (c.in_ok-found.ensures.written (inv.written w));
     }

@@ -1,5 +1,7 @@
 use Rattle.std.proofs.Common.{◌≡◌}
+use Rattle.std.specs.Prelude.{All}
 use Rattle.sqlite_trees.specs.View.{IsClean}
+use Rattle.ups_journal.specs.Writable.{IsWritableEntry}
 use Rattle.ups_restore.specs.Leaving.{AreTaken}
 use Rattle.ups_store.specs.Shown.{shown_by, all_of, given_out}
 use Rattle.ups_start.specs.Digested.{IsDigested}
@@ -13,4 +15,5 @@ invariant-loop-before g l = record {
   clean : IsClean (shown_by l.reading.replay) → IsClean (shown_by l.initial.reading.replay);
   settings : l.manager.settings ≡ l.initial.manager.settings;
   digested : IsDigested l.reading;
+  written : All (λ e. IsWritableEntry e) l.initial.manager.history → All (λ e. IsWritableEntry e) l.manager.history;
 }

@@ -30,3 +30,6 @@ pub run_threads-requires-clause-here : goal.run_threads-requires-clause-here
 run_threads-requires-clause-here g c κs within =
     let is : c.args.passes.items ≡ c.pop.new.self.items ++ c.in-Some.sweeper ∷ [] = search rules in
     (All-pop (λ p. p.table ≡ c.args.desk.now.table) c.args.passes.items c.pop.new.self.items (Some c.in-Some.sweeper) is c.requires.here).0
+
+pub returns-in_default-with_capacity-clause-goes_on : goal.returns-in_default-with_capacity-clause-goes_on
+returns-in_default-with_capacity-clause-goes_on g c = go_same g.L.Ledger c.args.keeper (seen_last c.args.passes.items)

@@ -2,7 +2,7 @@ use Rattle.std.proofs.Common.{subst}
 use Rattle.ups_life.specs.declared.request.Ask.TheVariants.{Do}
 use Rattle.ups_service.specs.Law.{Answers}
 use Rattle.ups_manager.specs.View.{ManagerView}
-use Rattle.ups_manager.proofs.manager.Manager.submit.Goals as goal
+use Rattle.ups_manager.proofs.manager.Manager.submit_within.Goals as goal
 
 pub returns-clause-answer : goal.returns-clause-answer
 returns-clause-answer g c =

@@ -1,0 +1,23 @@
+use Rattle.std.proofs.Common.{◌≡◌, ℕ, ◌≤◌, ◌-◌, ◌/◌, length, map, sym, subst, ap, ◌∙◌, arith}
+use Rattle.std.proofs.lemmas.Bool.{ltb-true}
+use Rattle.sqlite_trees.specs.View.{View, IsClean}
+use Rattle.ups_life.specs.Steps.{past}
+use Rattle.ups_journal.specs.Columns.{recorded}
+use Rattle.ups_compact.specs.Compacting.{compacted}
+use Rattle.ups_restore.specs.declared.acknowledging.TheConstants.{COMPACTOR}
+use Rattle.ups_store.specs.Rows.{requests_in}
+use Rattle.ups_store.specs.Shown.{shown_by, all_of}
+use Rattle.ups_start.specs.Started.{said}
+use Rattle.ups_start.proofs.carrying.compacted_anew.Goals as goal
+
+pub returns-in-Ok-clause-compacted : goal.returns-in-Ok-clause-compacted
+returns-in-Ok-clause-compacted g c = λ clean.
+    let manager = c.args.manager.now in
+    let first = c.args.reading.now.replay in
+    let read = c.carry_all.new.reading.replay in
+    let before : IsClean (shown_by first) = subst (λ (v : View). IsClean v) c.again.ensures.same (c.carry_all.ensures.clean clean) in
+    let same : all_of read ≡ all_of first = c.in_ok-carry_all.ensures.same clean ∙ ap (λ (v : View). requests_in v.committed) c.again.ensures.same in
+    let are : map recorded manager.history ≡ said (all_of read) = sym (c.requires.whole before) ∙ sym (ap said same) in
+    let few : length c.carry_all.new.fresh.history ≤ c.entries-all.result / 2 = omega (arith, ltb-true c.entries.result (c.entries-all.result - c.entries.result) (sym c.pays.ensures ∙ c.if-not-pays.false), c.entries.ensures.count, c.entries-all.ensures.count) in
+    c.in-Ok.ensures.compacted c.in_ok-steps.ensures (c.in_ok-carry_all.ensures.carried clean manager.history c.requires.written are few)
+    ∙ ap (λ (m : ℕ). compacted COMPACTOR m manager.settings (past manager.history)) c.moment_of.ensures.is
