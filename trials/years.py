@@ -564,7 +564,7 @@ def run(program: str, folder: str, watchers: list[Watcher], given: argparse.Name
         spend(server, watchers, given, counts, results)
         most = memory_of(server)
         server.process.kill()
-    if given.store and not results.failed:
+    if given.store:
         restart(words, counts, most, results)
 
 
