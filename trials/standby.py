@@ -5,6 +5,7 @@
     trials/standby.py up      starts the machines a, b and c, and makes the cluster
     trials/standby.py try     tries what follows, or what is named (hypervisor: alone, and after `down`)
     trials/standby.py down    ends the machines
+    trials/standby.py all     does all of this in one go, from nothing, and then tries hypervisor
 
 The machines are virtual (QEMU), with the files of packaging/cluster, and all is in a network namespace: nothing is sent to any
 other machine. 192.0.2.0/24 is the network of the cluster, with the floating address 192.0.2.10 and the clients at 192.0.2.100.
@@ -20,7 +21,7 @@ still reach it when it is cut off.
     pause        the time of the primary stands still for a minute and a half, as a hypervisor may do it, and then goes on
     disk         the primary's disk is taken away: it goes on with that of the standby
     old          the standby is killed, work goes on, the primary is killed, and the standby started: it has old data
-    all          all three machines are killed at once, and started again
+    every        all three machines are killed at once, and started again
     hypervisor   a machine without a cluster: it is killed and another one started on the same disks
 
 After each, check/kills.py checks that all that was answered is there, that each holder is the holder, and that each watcher learns
@@ -354,15 +355,15 @@ def old(cluster: Cluster, results: Results) -> None:
     await_whole(cluster, results, "old")
 
 
-def everything(cluster: Cluster, results: Results) -> None:
+def every(cluster: Cluster, results: Results) -> None:
     def fault(_: Cluster) -> None:
         for it in cluster.machines.values():
             it.kill()
         for it in cluster.machines.values():
             it.start()
 
-    round_of(cluster, results, "all", fault)
-    await_whole(cluster, results, "all")
+    round_of(cluster, results, "every", fault)
+    await_whole(cluster, results, "every")
 
 
 def second_machine(path: str) -> str:
@@ -400,13 +401,14 @@ def hypervisor(solo: Machine, given: argparse.Namespace, results: Results) -> No
 
 
 TRIALS = {"power": power, "cut": cut, "server": server, "peer": peer, "full": full, "switch": switch, "pause": pause, "disk": disk,
-          "old": old, "all": everything}
+          "old": old, "every": every}
+IN_ONE_GO = (("make",), ("up",), ("try",), ("down",), ("try", "hypervisor"), ("down",))
 
 
 def arguments() -> argparse.Namespace:
     about, _, more = (__doc__ or "").partition("\n\n")
     asked = argparse.ArgumentParser(description=about, epilog=more, formatter_class=argparse.RawDescriptionHelpFormatter)
-    asked.add_argument("command", choices=("make", "up", "try", "down"))
+    asked.add_argument("command", choices=("make", "up", "try", "down", "all"))
     asked.add_argument("trials", nargs="*", metavar="TRIAL", help="what is tried (all but hypervisor)")
     asked.add_argument("--work", default="standby-machines", help="the folder for the machines (%(default)s)")
     asked.add_argument("--program", default=os.path.join(HERE, "crates/upsd/out/upsd"), help="the program (%(default)s)")
@@ -434,9 +436,22 @@ def run_trials(machines: dict[str, Machine], solo: Machine, given: argparse.Name
     results.end("a standby")
 
 
+def run_all() -> None:
+    """Runs each command in turn, with the options that were given."""
+    options, statuses = [it for it in sys.argv[1:] if it != "all"], []
+    for words in IN_ONE_GO:
+        tell(*words)
+        statuses.append(subprocess.run([sys.executable, sys.argv[0], *words, *options]).returncode)
+        if statuses[-1] and words[0] in ("make", "up"):
+            break
+    sys.exit(max(statuses))
+
+
 def main() -> None:
     given = arguments()
     os.makedirs(given.work, exist_ok=True)
+    if given.command == "all":
+        run_all()
     if given.command == "make":
         make(given.work, os.path.abspath(given.program))
         return

@@ -233,8 +233,15 @@ def tell_same(name: str, one: Picture, other: Picture, results: Results) -> None
     for watcher in NAMES:
         wanted, found = one.of_held(one.reports[watcher]), other.of_held(other.reports[watcher])
         results.tell(f"{name}: what is pending for {watcher}, {len(wanted)} events of steps held", differing(wanted, found))
-        wanted, found = one.provoked[watcher], other.provoked[watcher]
+        wanted, found = current(one.provoked[watcher]), current(other.provoked[watcher])
         results.tell(f"{name}: what {watcher} is told then, {len(wanted)} events", differing(wanted, found))
+
+
+def current(reports: list[Report]) -> list[Report]:
+    """Returns reports without each State Report behind which one of the same step comes: whether a watcher had it before the later
+    one superseded it depends on the clock."""
+    last = {it.uid: at for at, it in enumerate(reports) if it.is_state()}
+    return [it for at, it in enumerate(reports) if not it.is_state() or last[it.uid] == at]
 
 
 def differing(one: list[Report], other: list[Report]) -> Optional[str]:

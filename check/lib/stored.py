@@ -175,6 +175,9 @@ class Report:
     event: int
     information: bytes
 
+    def is_state(self) -> bool:
+        return struct.pack("<H", self.event) == STATE_REPORT
+
     def shown(self) -> tuple[bytes, bytes]:
         """Returns the state and the readiness that it reports."""
         told_of = read(True, self.information)
