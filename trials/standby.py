@@ -413,6 +413,7 @@ def arguments() -> argparse.Namespace:
     asked.add_argument("--work", default="standby-machines", help="the folder for the machines (%(default)s)")
     asked.add_argument("--program", default=os.path.join(HERE, "crates/upsd/out/upsd"), help="the program (%(default)s)")
     asked.add_argument("--seed", type=int, default=1, help="by which what is random is chosen (%(default)s)")
+    asked.add_argument("--checked", action="store_true", help="the program is built with checks (`rt try`), and gets no LimitAS")
     asked.add_argument("--kvm", action="store_true", help="run the machines by KVM")
     return asked.parse_args()
 
@@ -453,7 +454,7 @@ def main() -> None:
     if given.command == "all":
         run_all()
     if given.command == "make":
-        make(given.work, os.path.abspath(given.program))
+        make(given.work, os.path.abspath(given.program), given.checked)
         return
     in_space()
     redirect()

@@ -57,14 +57,16 @@ def settings() -> dict[str, str]:
     return found
 
 
-def make(work: str, program: str) -> None:
-    """Makes the image from which all machines start, with the package of upsd."""
+def make(work: str, program: str, is_checked: bool) -> None:
+    """Makes the image from which all machines start, with the package of upsd. A program that is built with checks gets no LimitAS."""
     root = os.path.join(work, "root")
     if not os.path.exists(os.path.join(root, "usr/sbin/pacemakerd")):
         run("debootstrap", "--variant=minbase", f"--include={PACKAGES}", "bookworm", root)
         run("chroot", root, "apt-get", "install", "-y", "--no-install-recommends", *MORE)
     for path, text in settings().items():
         put(os.path.join(root, path), text)
+    if is_checked:
+        put(os.path.join(root, "etc/systemd/system/upsd.service.d/checked.conf"), "[Service]\nLimitAS=infinity\n")
     package = run(os.path.join(HERE, "packaging/build"), "--program", program, "--output", work).strip().splitlines()[-1]
     shutil.copy(package, os.path.join(root, "root/upsd.deb"))
     run("chroot", root, "dpkg", "--force-confold", "-i", "/root/upsd.deb")
