@@ -40,7 +40,7 @@ repeats_left s steps es (Ack upto) d = refl
 repeats_left s steps es Sweep d = refl
 
 -- what is left is about the steps that stay
-names_left : {A : Type 0} (steps : List (List ℕ)) (r : Request A) → is_left steps r ≡ true → is_about steps (named_step r) ≡ true
+pub names_left : {A : Type 0} (steps : List (List ℕ)) (r : Request A) → is_left steps r ≡ true → is_about steps (named_step r) ≡ true
 names_left steps (Create v set) is = is
 names_left steps (Change step state t) is = is
 names_left steps (AskCancel step reasons) is = is
@@ -51,7 +51,7 @@ names_left steps (Suspend receiver) is = refl
 names_left steps (Ack upto) is = refl
 names_left steps Sweep is = refl
 
-on_left : {A : Type 0} (steps : List (List ℕ)) (r : Request A) → is_left steps r ≡ true → is_about steps (step_of r) ≡ true
+pub on_left : {A : Type 0} (steps : List (List ℕ)) (r : Request A) → is_left steps r ≡ true → is_about steps (step_of r) ≡ true
 on_left steps (Create v set) is = is
 on_left steps (Change step state t) is = is
 on_left steps (AskCancel step reasons) is = is
@@ -74,7 +74,7 @@ status_left {A} s law steps e es l stays d is =
     ∙ ap (λ (b : Bool). of_peer s.peers (receiver_of e.request) (of_lock s.peers e.request (sized e.request (row_then s es e).attributes (verdict (known s es (named_step e.request)) b e.request))))
     (repeats_left s steps es e.request d))
 
-decided_left : {A : Type 0} (s : Settings) (steps : List (List ℕ)) (e : Entry A) (ls es : List (Entry A)) (r : Request A) → is_left steps r ≡ true → status s ls e ≡ status s es e → decided s ls e r ≡ decided s es e r
+pub decided_left : {A : Type 0} (s : Settings) (steps : List (List ℕ)) (e : Entry A) (ls es : List (Entry A)) (r : Request A) → is_left steps r ≡ true → status s ls e ≡ status s es e → decided s ls e r ≡ decided s es e r
 decided_left s steps e ls es (Create v set) is h = ap Answered h
 decided_left s steps e ls es (Change step state t) is h = ap Answered h
 decided_left s steps e ls es (AskCancel step reasons) is h = ap Answered h
@@ -108,10 +108,10 @@ fewer p (x ∷ xs) = at (p x) (fewer p xs)
     at true h = omega arith
     at false h = omega arith
 
-lower : (n m k : ℕ) → n ≤ m → nat_lt m k ≡ true → nat_lt n k ≡ true
+pub lower : (n m k : ℕ) → n ≤ m → nat_lt m k ≡ true → nat_lt n k ≡ true
 lower n m k le h = grind (arith, nat_tests)
 
-accepted_left : {A : Type 0} (s : Settings) (ls es : List (Entry A)) (x : Reply A) → length ls ≤ length es → accepts (in_room s es x) ≡ true → accepts (in_room s ls x) ≡ true
+pub accepted_left : {A : Type 0} (s : Settings) (ls es : List (Entry A)) (x : Reply A) → length ls ≤ length es → accepts (in_room s es x) ≡ true → accepts (in_room s ls x) ≡ true
 accepted_left s ls es x le h =
     let had = had_room (accepts x) (nat_lt (length es) s.limit) x refl h in
     has_room (accepts x) (nat_lt (length ls) s.limit) x refl had.0 (lower (length ls) (length es) s.limit le had.1)

@@ -92,7 +92,7 @@ one_acked {A} caller moment number w (p ∷ ps) es once h = at (bytes_eq p.ae w)
     at false is later g = later g ∙ ap (unwrap_or (number w)) (other_ack caller moment p.ae w (number p.ae) es is)
 
 -- what stays of a history acknowledges nothing
-stays_unacked : {A : Type 0} (steps : List (List ℕ)) (w ae : List ℕ) (n : ℕ) (r : Request A) → is_left steps r ≡ true → acked_after w ae n r ≡ n
+pub stays_unacked : {A : Type 0} (steps : List (List ℕ)) (w ae : List ℕ) (n : ℕ) (r : Request A) → is_left steps r ≡ true → acked_after w ae n r ≡ n
 stays_unacked steps w ae n (Ack upto) h = absurd cc
 stays_unacked steps w ae n (Create step set) h = refl
 stays_unacked steps w ae n (Change step state t) h = refl

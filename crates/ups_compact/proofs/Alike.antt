@@ -87,7 +87,7 @@ nothing_next s e es u off h = record {
 }
 
 -- a legal history says nothing of a step whose UID was not used
-unused_nothing : {A : Type 0} (s : Settings) (es : List (Entry A)) (u : List ℕ) → legal s es ≡ true → used es u ≡ false → Nothing s es u
+pub unused_nothing : {A : Type 0} (s : Settings) (es : List (Entry A)) (u : List ℕ) → legal s es ≡ true → used es u ≡ false → Nothing s es u
 unused_nothing s [] u l h = record { no_row = refl; no_state = refl; no_claim = refl; no_end = refl }
 unused_nothing s (e ∷ es) u l h =
     let n = neither (creates u e.request) (used es u) h in
@@ -313,7 +313,7 @@ module _ {A : Type 0} (s : Settings) (e : Entry A) (by log : List (Entry A)) (sa
       at old fresh true on = absurd (differ (used log u) fresh (used_log s by log r u (on_known u on old)))
       at old fresh false on = refl
 
-  says_then : Says s (e ∷ by) (e ∷ log)
+  pub says_then : Says s (e ∷ by) (e ∷ log)
   says_then = record {
     same = record {
       steps = held_case e.request;

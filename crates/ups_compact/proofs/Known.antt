@@ -64,7 +64,7 @@ later_than_known n (suc i) (x ∷ xs) h =
 -- EVENTS ARE NUMBERED FROM 1
 
 -- each number is one above the one before it, the first one above n
-Counted : ℕ → List Event → Type 0
+unfoldable pub Counted : ℕ → List Event → Type 0
 Counted n [] = Unit {0}
 Counted n (x ∷ xs) = (x.number ≡ n + 1) × Counted (n + 1) xs
 
@@ -82,13 +82,13 @@ none_counted : Counted 0 []
 unfolding Counted
 none_counted = tt
 
-events_counted : {A : Type 0} (s : Settings) (es : List (Entry A)) (w : List ℕ) → Counted 0 (events s es w)
+pub events_counted : {A : Type 0} (s : Settings) (es : List (Entry A)) (w : List ℕ) → Counted 0 (events s es w)
 events_counted s [] w = none_counted
 events_counted s (e ∷ es) w =
     counted_append 0 (length (events s es w)) (events s es w) (numbered (length (events s es w) + 1) (length es) (reports_of s es e w e.request)) (events_counted s es w) (omega arith)
     (counted_numbered (length (events s es w)) (length (events s es w) + 1) (length es) (reports_of s es e w e.request) refl)
 
-counted_rises : (n : ℕ) (xs : List Event) → Counted n xs → Rising n xs
+pub counted_rises : (n : ℕ) (xs : List Event) → Counted n xs → Rising n xs
 unfolding Counted Rising
 counted_rises n [] h = tt
 counted_rises n (x ∷ xs) h = let is = h.0 in (omega (arith, is), subst (λ m. Rising m xs) (sym is) (counted_rises (n + 1) xs h.1))

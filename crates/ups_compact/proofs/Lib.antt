@@ -6,11 +6,18 @@ mod Claimed
 mod Counting
 mod Covering
 mod Holding
+mod Kept
+mod KeptRoom
+mod KeptTold
 mod Known
+mod Needed
 mod Off
 pub mod Ordered
+mod Outside
 mod Pending
 mod Room
+mod Shifted
+mod Shifts
 pub mod Standing
 mod Staying
 mod Telling

@@ -22,11 +22,11 @@ use Rattle.ups_compact.proofs.Known.{front, front_and_later, later_than_known, c
 
 -- WHAT IS CURRENT OF REPORTS
 
-abbrev is_state_of : List ℕ → Report → Bool
+abbrev pub is_state_of : List ℕ → Report → Bool
 is_state_of u x = bytes_eq x.step u && is_state_report x.kind
 
 -- reports without each State Report that a later one of the same step supersedes
-abbrev latest : List Report → List Report
+abbrev pub latest : List Report → List Report
 latest [] = []
 latest (x ∷ xs) = cond (is_state_report x.kind && list_any (is_state_of x.step) xs) (latest xs) (x ∷ latest xs)
 
@@ -39,7 +39,7 @@ either true c x xs e = ap (λ (d : Bool). cond d (map reported xs) (reported x �
 either false c x xs e = ap (λ (d : Bool). cond d (map reported xs) (reported x ∷ map reported xs)) e
 
 -- numbers are no part of what is current
-reported_current : (xs : List Event) → map reported (current xs) ≡ latest (map reported xs)
+pub reported_current : (xs : List Event) → map reported (current xs) ≡ latest (map reported xs)
 reported_current [] = refl
 reported_current (x ∷ xs) =
     either (is_state_report x.kind && list_any (is_report_of x.step) xs) (is_state_report x.kind && list_any (is_state_of x.step) (map reported xs)) x (current xs) (ap (λ (b : Bool). is_state_report x.kind && b) (same_any x.step xs))

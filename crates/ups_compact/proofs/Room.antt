@@ -29,7 +29,7 @@ use Rattle.ups_compact.proofs.Pending.{fresh, ends_with, same_count}
 -- HOW MANY PEERS
 
 -- how many of these titles pass a test
-abbrev count : (List ℕ → Bool) → List Peer → ℕ
+abbrev pub count : (List ℕ → Bool) → List Peer → ℕ
 count p [] = 0
 count p (x ∷ xs) = cond (p x.ae) (count p xs + 1) (count p xs)
 
@@ -39,12 +39,12 @@ more true false h n m low = let bad : false ≡ true = h refl in absurd cc
 more false true h n m low = omega (arith, low)
 more false false h n m low = low
 
-count_more : (p q : List ℕ → Bool) → ((w : List ℕ) → p w ≡ true → q w ≡ true) → (ps : List Peer) → count p ps ≤ count q ps
+pub count_more : (p q : List ℕ → Bool) → ((w : List ℕ) → p w ≡ true → q w ≡ true) → (ps : List Peer) → count p ps ≤ count q ps
 count_more p q h [] = omega arith
 count_more p q h (x ∷ xs) = more (p x.ae) (q x.ae) (h x.ae) (count p xs) (count q xs) (count_more p q h xs)
 
 -- who has acknowledged some event
-abbrev has_acked : {A : Type 0} → List (Entry A) → List ℕ → Bool
+abbrev pub has_acked : {A : Type 0} → List (Entry A) → List ℕ → Bool
 has_acked es w = nat_lt 0 (acked es w)
 
 -- after an acknowledgement of ae
@@ -65,7 +65,7 @@ none_more ae n before (p ∷ ps) h =
     ap (λ (b : Bool). cond (nat_lt 0 (cond b n (before p.ae))) (count (acked_then ae n before) ps + 1) (count (acked_then ae n before) ps)) (apart p.ae ae none.0)
     ∙ ap (λ (k : ℕ). cond (nat_lt 0 (before p.ae)) (k + 1) k) (none_more ae n before ps none.1)
 
-one_more : (ae : List ℕ) (n : ℕ) (before : List ℕ → ℕ) (ps : List Peer) → has_title_twice ps ≡ false → count (acked_then ae n before) ps ≤ count (λ w. nat_lt 0 (before w)) ps + 1
+pub one_more : (ae : List ℕ) (n : ℕ) (before : List ℕ → ℕ) (ps : List Peer) → has_title_twice ps ≡ false → count (acked_then ae n before) ps ≤ count (λ w. nat_lt 0 (before w)) ps + 1
 one_more ae n before [] once = omega arith
 one_more ae n before (p ∷ ps) once = at (bytes_eq ae p.ae) refl (one_more ae n before ps alone.1)
   where
@@ -112,7 +112,7 @@ step steps e es ps (Suspend receiver) once false is h = omega (arith, h)
 step steps e es ps Sweep once true is h = omega (arith, h)
 step steps e es ps Sweep once false is h = omega (arith, h)
 
-none_has : (A : Type 0) (ps : List Peer) → count (has_acked {A = A} []) ps ≡ 0
+pub none_has : (A : Type 0) (ps : List Peer) → count (has_acked {A = A} []) ps ≡ 0
 none_has A [] = refl
 none_has A (p ∷ ps) = none_has A ps
 
@@ -154,7 +154,7 @@ knows s law es w l h = at (nat_lt 0 (acked es w)) refl
         absurd (differ (is_some (upto s es w)) (ap is_some none) h)
 
 -- a legal history is within its limit
-within_limit : {A : Type 0} (s : Settings) (es : List (Entry A)) → legal s es ≡ true → length es ≤ s.limit
+pub within_limit : {A : Type 0} (s : Settings) (es : List (Entry A)) → legal s es ≡ true → length es ≤ s.limit
 within_limit s [] l = omega arith
 within_limit s (e ∷ es) l =
     let h = both (accepts (reply s es e)) (legal s es) l in
@@ -191,11 +191,11 @@ or_true : (b : Bool) → b || true ≡ true
 or_true true = refl
 or_true false = refl
 
-abbrev Can : {A : Type 0} → Settings → List (Entry A) → (List ℕ → Option ℕ) → Type 0
+abbrev pub Can : {A : Type 0} → Settings → List (Entry A) → (List ℕ → Option ℕ) → Type 0
 Can s es number = (w : List ℕ) (n : ℕ) → number w ≡ Some n → (n ≤ length (events s es w)) × (0 < n)
 
 -- after the acknowledgement of p those of the peers behind it
-legal_acks : {A : Type 0} (caller moment : ℕ) (s : Settings) (number : List ℕ → Option ℕ) (ps : List Peer) (es : List (Entry A)) → has_title_twice ps ≡ false → legal s es ≡ true → Can s es number
+pub legal_acks : {A : Type 0} (caller moment : ℕ) (s : Settings) (number : List ℕ → Option ℕ) (ps : List Peer) (es : List (Entry A)) → has_title_twice ps ≡ false → legal s es ≡ true → Can s es number
     → ((w : List ℕ) → is_peer ps w ≡ true → acked es w ≡ 0) → length es + count (λ w. is_some (number w)) ps ≤ s.limit → legal s (with_acks caller moment number ps es) ≡ true
 legal_acks caller moment s number [] es once l can none room = l
 legal_acks {A} caller moment s number (p ∷ ps) es once l can none room =
@@ -241,7 +241,7 @@ legal_compacted caller moment s law es l once =
           known_is_some s (compact s es) w (length (pending s (compact s es) w) - length (of_steps (held s es) (pending s es w))) n known,
         )
 
-length_acks : {A : Type 0} (caller moment : ℕ) (number : List ℕ → Option ℕ) (ps : List Peer) (es : List (Entry A)) → length (with_acks caller moment number ps es) ≡ length es + count (λ w. is_some (number w)) ps
+pub length_acks : {A : Type 0} (caller moment : ℕ) (number : List ℕ → Option ℕ) (ps : List Peer) (es : List (Entry A)) → length (with_acks caller moment number ps es) ≡ length es + count (λ w. is_some (number w)) ps
 length_acks caller moment number [] es = omega arith
 length_acks {A} caller moment number (p ∷ ps) es = length_acks caller moment number ps (with_ack caller moment p.ae (number p.ae) es) ∙ at (number p.ae)
   where

@@ -68,7 +68,7 @@ swept steps p (x ∷ xs) h =
     at false a false c more = more
 
 -- the steps held after a request that stays, or is dropped
-held_case : {A : Type 0} (s : Settings) (steps : List (List ℕ)) (m : ℕ) (ls es : List (Entry A)) (r : Request A) → held s ls ≡ filter (λ u. is_among u steps) (held s es)
+pub held_case : {A : Type 0} (s : Settings) (steps : List (List ℕ)) (m : ℕ) (ls es : List (Entry A)) (r : Request A) → held s ls ≡ filter (λ u. is_among u steps) (held s es)
     → (r ≡ Sweep → (u : List ℕ) → is_among u steps ≡ true → is_among u (held s es) ≡ true → not (is_due s es m u) ≡ true) → (b : Bool) → is_left steps r ≡ b
     → cond b (held_after s ls m (held s ls) r) (held s ls) ≡ filter (λ u. is_among u steps) (held_after s es m (held s es) r)
 held_case s steps m ls es (Create v set) h sweep true is =
@@ -107,7 +107,7 @@ held_left {A} s law steps (e ∷ es) l stays =
     (λ is u a h. passes (λ v. not (is_due s es e.moment v)) u (held s es) (subst (λ (q : Request A). is_among u (held_after s es e.moment (held s es) q) ≡ true) is (stays u a (more_used e es u (is_held_used s es u h)))))
     (is_left steps e.request) refl
 
-among_left : (steps : List (List ℕ)) (u : List ℕ) → is_among u steps ≡ true → (xs : List (List ℕ)) → is_among u (filter (λ v. is_among v steps) xs) ≡ is_among u xs
+pub among_left : (steps : List (List ℕ)) (u : List ℕ) → is_among u steps ≡ true → (xs : List (List ℕ)) → is_among u (filter (λ v. is_among v steps) xs) ≡ is_among u xs
 among_left steps u in' [] = refl
 among_left steps u in' (x ∷ xs) = at (is_among x steps) refl (among_left steps u in' xs)
   where

@@ -145,7 +145,7 @@ module _ {A : Type 0} (s : Settings) (e : Entry A) (by log : List (Entry A)) (sa
   where_so true xs h = h
   where_so false xs h = tt
 
-  reports_same : (q : Request A) → e.request ≡ q → reports_of s by e w q ≡ reports_of s log e w q
+  pub reports_same : (q : Request A) → e.request ≡ q → reports_of s by e w q ≡ reports_of s log e w q
   reports_same (Create v set) is =
       let h = new_of (Create v set) is v (text_is_itself v) in
       ap (λ (x : Option Subscription). only_if (is_some x) (as_it_is s (e ∷ by) v)) (cover_of s e by log says l anew w (row s (e ∷ by) v) (row s (e ∷ log) v) (same_next s e by log v h).row_is)

@@ -46,7 +46,7 @@ told_next s e es w =
 abbrev pub AreOf : List ℕ → List Report → Type 0
 AreOf u xs = AllByRecursion (λ (x : Report). x.step ≡ u) xs
 
-all_kept : (steps : List (List ℕ)) (u : List ℕ) (xs : List Report) → is_among u steps ≡ true → AreOf u xs → told_of_steps steps xs ≡ xs
+pub all_kept : (steps : List (List ℕ)) (u : List ℕ) (xs : List Report) → is_among u steps ≡ true → AreOf u xs → told_of_steps steps xs ≡ xs
 all_kept steps u [] a h = refl
 all_kept steps u (x ∷ xs) a (h, more) =
     ap (λ (b : Bool). cond b (x ∷ told_of_steps steps xs) (told_of_steps steps xs)) (ap (λ (v : List ℕ). is_among v steps) h ∙ a) ∙ ap (λ (ys : List Report). x ∷ ys) (all_kept steps u xs a more)
@@ -94,7 +94,7 @@ watched_of u true c xs x h k = h
 watched_of u false c xs x h k = one_of u c x k
 
 -- of a step that stays, or of none, all reports stay, and of another none
-watched_kept : {A : Type 0} (s : Settings) (steps : List (List ℕ)) (es : List (Entry A)) (e : Entry A) (w : List ℕ) (step : Option (List ℕ)) (r : Request A) → is_about steps step ≡ true
+pub watched_kept : {A : Type 0} (s : Settings) (steps : List (List ℕ)) (es : List (Entry A)) (e : Entry A) (w : List ℕ) (step : Option (List ℕ)) (r : Request A) → is_about steps step ≡ true
     → told_of_steps steps (if_watched s es e w step (λ u. told_of s es e u r)) ≡ if_watched s es e w step (λ u. told_of s es e u r)
 watched_kept s steps es e w None r a = refl
 watched_kept s steps es e w (Some u) r a =
@@ -146,7 +146,7 @@ taken_case steps f g p q st fg pq x xs false a true b h =
     h ∙ sym (ap (λ (c : Bool). cond c (g x ∷ told_of_steps steps (map g (filter q xs))) (told_of_steps steps (map g (filter q xs)))) (ap (λ (u : List ℕ). is_among u steps) (st x) ∙ a))
 taken_case steps f g p q st fg pq x xs false a false b h = h
 
-taken_left : (steps : List (List ℕ)) (f g : List ℕ → Report) (p q : List ℕ → Bool) → ((u : List ℕ) → (g u).step ≡ u) → ((u : List ℕ) → is_among u steps ≡ true → f u ≡ g u) → ((u : List ℕ) → is_among u steps ≡ true → p u ≡ q u)
+pub taken_left : (steps : List (List ℕ)) (f g : List ℕ → Report) (p q : List ℕ → Bool) → ((u : List ℕ) → (g u).step ≡ u) → ((u : List ℕ) → is_among u steps ≡ true → f u ≡ g u) → ((u : List ℕ) → is_among u steps ≡ true → p u ≡ q u)
     → (xs : List (List ℕ)) → map f (filter p (filter (λ u. is_among u steps) xs)) ≡ told_of_steps steps (map g (filter q xs))
 taken_left steps f g p q st fg pq [] = refl
 taken_left steps f g p q st fg pq (x ∷ xs) = taken_case steps f g p q st fg pq x xs (is_among x steps) refl (q x) refl (taken_left steps f g p q st fg pq xs)
@@ -162,7 +162,7 @@ single_gone : (steps : List (List ℕ)) (g : List ℕ → Report) → ((u : List
 single_gone steps g st v out [] = refl
 single_gone steps g st v out (x ∷ xs) = single_case steps g st v out x xs (bytes_eq v x) refl (single_gone steps g st v out xs)
 
-where_so : (steps : List (List ℕ)) (b : Bool) (xs ys : List Report) → xs ≡ told_of_steps steps ys → cond b xs [] ≡ told_of_steps steps (cond b ys [])
+pub where_so : (steps : List (List ℕ)) (b : Bool) (xs ys : List Report) → xs ≡ told_of_steps steps ys → cond b xs [] ≡ told_of_steps steps (cond b ys [])
 where_so steps true xs ys h = h
 where_so steps false xs ys h = refl
 
@@ -207,7 +207,7 @@ kept_reports s law steps e es w (Suspend receiver) l stays a = refl
 kept_reports s law steps e es w (Ack upto) l stays a = refl
 kept_reports s law steps e es w Sweep l stays a = refl
 
-gone_reports : {A : Type 0} (s : Settings) (steps : List (List ℕ)) (e : Entry A) (es : List (Entry A)) (w : List ℕ) (r : Request A) → is_left steps r ≡ false → told_of_steps steps (reports_of s es e w r) ≡ []
+pub gone_reports : {A : Type 0} (s : Settings) (steps : List (List ℕ)) (e : Entry A) (es : List (Entry A)) (w : List ℕ) (r : Request A) → is_left steps r ≡ false → told_of_steps steps (reports_of s es e w r) ≡ []
 gone_reports s steps e es w (Create v set) a =
     all_gone steps v (only_if (is_some (cover s.peers es w (row s (e ∷ es) v))) (as_it_is s (e ∷ es) v)) a (one_of v (is_some (cover s.peers es w (row s (e ∷ es) v))) (as_it_is s (e ∷ es) v) refl)
 gone_reports s steps e es w (Change step st t) a = watched_gone s steps es e w step (Change step st t) a

@@ -26,7 +26,8 @@ use Rattle.ups_life.specs.Steps.{cancellation, holder}
 use Rattle.ups_life.specs.Watching.{held}
 use Rattle.ups_life.specs.Events.{pending}
 use Rattle.ups_life.specs.History.{reply, legal}
-use Rattle.ups_compact.specs.Compacting.{compact, to_tell, upto, compacted}
+use Rattle.ups_compact.specs.Compacting.{compact, to_tell, upto, compacted, left_for, compacted_for, steps_needed}
+use Rattle.ups_compact.specs.Shifting.{shift, shifted}
 
 -- two watchers
 abbrev w1 : List ℕ
@@ -166,3 +167,68 @@ a_used_uid = refl
 is_free_again : reply site short_day again ≡ Answered Success
 unfolding moment day_number days_of_month field is_date is_time date_number second_of_day microsecond_of offset_of signed_offset
 is_free_again = refl
+
+-- WITH THE STEPS NEEDED: an event of u2 is pending, so u2 is one of them, and its sweep is kept; only acknowledgements go
+the_steps_needed : steps_needed site day ≡ u1 ∷ u3 ∷ u1 ∷ u2 ∷ u3 ∷ []
+unfolding cancellation stamp begun date_stamp time_stamp offset_stamp year_on month_on
+the_steps_needed = refl
+
+abbrev whole_day : List Call
+whole_day =
+    by (codes "RIS") 200 Sweep
+    ∷ created u3 150
+    ∷ by (codes "DOC") 120 (AskCancel (Some u2) [])
+    ∷ gone_on
+    ∷ claimed
+    ∷ created u2 20
+    ∷ created u1 10
+    ∷ subscribed
+    ∷ []
+
+all_is_left : left_for site (u1 ∷ u2 ∷ u3 ∷ []) day ≡ whole_day
+unfolding cancellation stamp begun date_stamp time_stamp offset_stamp year_on month_on
+all_is_left = refl
+
+its_number_is_the_same : compacted_for 9 300 site (u1 ∷ u2 ∷ u3 ∷ []) day ≡ record { caller = 9; ae = w1; moment = 300; request = Ack 3 } ∷ whole_day
+unfolding cancellation stamp begun date_stamp time_stamp offset_stamp year_on month_on
+its_number_is_the_same = refl
+
+-- once the first watcher has acknowledged the events of u2, nothing of u2 is needed
+abbrev calm_day : List Call
+calm_day = by w1 220 (Ack 6) ∷ day
+
+it_is_legal_too : legal site calm_day ≡ true
+unfolding moment day_number days_of_month field is_date is_time date_number second_of_day microsecond_of offset_of signed_offset cancellation stamp begun date_stamp time_stamp offset_stamp year_on month_on
+it_is_legal_too = refl
+
+fewer_are_needed : steps_needed site calm_day ≡ u1 ∷ u3 ∷ u3 ∷ []
+unfolding cancellation stamp begun date_stamp time_stamp offset_stamp year_on month_on
+fewer_are_needed = refl
+
+-- of the six events acknowledged three are about u1: so the third is acknowledged
+abbrev shorter_day : List Call
+shorter_day =
+    record { caller = 9; ae = w1; moment = 300; request = Ack 3 }
+    ∷ created u3 150
+    ∷ gone_on
+    ∷ claimed
+    ∷ created u1 10
+    ∷ subscribed
+    ∷ []
+
+its_number_is_less : compacted_for 9 300 site (u1 ∷ u3 ∷ []) calm_day ≡ shorter_day
+unfolding cancellation stamp begun date_stamp time_stamp offset_stamp year_on month_on
+its_number_is_less = refl
+
+-- the event that is pending has the number 7, and 4 here: so an acknowledgement of it is entered with 4
+what_is_shifted : (pending site calm_day w1 ≡ event 7 7 StateReport u3 Scheduled ∷ []) × (pending site shorter_day w1 ≡ event 4 4 StateReport u3 Scheduled ∷ [])
+unfolding cancellation stamp begun date_stamp time_stamp offset_stamp year_on month_on
+what_is_shifted = (refl, refl)
+
+by_three : shift site shorter_day calm_day w1 ≡ 3
+unfolding cancellation stamp begun date_stamp time_stamp offset_stamp year_on month_on
+by_three = refl
+
+the_same_acknowledgement : shifted site shorter_day calm_day (by w1 310 (Ack 7)) ≡ by w1 310 (Ack 4)
+unfolding cancellation stamp begun date_stamp time_stamp offset_stamp year_on month_on
+the_same_acknowledgement = refl

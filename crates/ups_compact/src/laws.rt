@@ -1,20 +1,23 @@
 //! The laws of compact histories, which say the same as the original ones. Each is the contract of a function that does
 //! nothing.
 
-ghost use Rattle.std.specs.Prelude.{◌≡◌, ◌≤◌, ◌<◌, ◌++◌, [], ◌∷◌, ℕ, List, Option, length, true, false};
+ghost use Rattle.std.specs.Prelude.{◌≡◌, ◌≤◌, ◌<◌, ◌+◌, ◌++◌, [], ◌∷◌, ℕ, List, Option, length, map, true, false};
 ghost use Rattle.ups_dataset.specs.declared.tag.Tag.{Tag};
 ghost use Rattle.ups_dataset.specs.Data.{El};
 ghost use Rattle.ups_match.specs.Matching.{KeySet};
 ghost use Rattle.ups_life.specs.declared.entry.Entry.{Entry};
+ghost use Rattle.ups_life.specs.declared.event.Event.{Event};
 ghost use Rattle.ups_life.specs.Settings.{Settings};
 ghost use Rattle.ups_life.specs.Claims.{claims};
 ghost use Rattle.ups_life.specs.Steps.{past, used, row_of, holder};
 ghost use Rattle.ups_life.specs.Watching.{is_peer, cover, held, watch, is_due, is_held};
 ghost use Rattle.ups_life.specs.Filters.{filter_now};
+ghost use Rattle.ups_life.specs.Events.{events, acked, pending};
 ghost use Rattle.ups_life.specs.History.{reply, decided, legal, got};
 ghost use Rattle.ups_life.specs.Worklist.{worklist};
-ghost use Rattle.ups_compact.specs.Compacting.{compact, told_to, told_of_steps, to_tell, compacted, has_title_twice, is_answered_alike};
+ghost use Rattle.ups_compact.specs.Compacting.{compact, told_to, told_of_steps, to_tell, compacted, has_title_twice, is_answered_alike, compacted_for, steps_needed, LosesNothing};
 ghost use Rattle.ups_compact.specs.Course.{Turn, log_of, kept_of, is_course, is_anew, SaysSame, TellsSame, IsLeftOf};
+ghost use Rattle.ups_compact.specs.Shifting.{shift, raised, shifted, followed, is_renewal, IsShifted};
 
 use std::alloc::Allocator;
 use ups_life::laws::a_removed_step_stays_away;
@@ -155,3 +158,43 @@ pub fn a_step_is_claimed_once_all_along<A: Allocator + Copy>()
 {
     a_removed_step_stays_away::<A>();
 }
+
+/// Does nothing at run time: its contract tells a proof that a history may be compacted for more steps than those held.
+/// If they are all that are held and all of which an event is pending for a peer, removed or not, nothing is lost: the
+/// compacted history stands for the history, but the numbers of its events are less (PS3.4 CC.2.4).
+pub fn with_the_steps_needed_nothing_is_lost<A: Allocator + Copy>()
+    ensures needed { (s : Settings) → (es : List (Entry A)) → LosesNothing s (steps_needed s es) es }
+    ensures stands { (caller moment : ℕ) → (s : Settings) → (steps : List (List ℕ)) → (es : List (Entry A)) → legal s es ≡ true → has_title_twice s.peers ≡ false → LosesNothing s steps es
+        → IsShifted s (compacted_for caller moment s steps es) es }
+{}
+
+/// Does nothing at run time: its contract tells a proof by how much the numbers of a watcher's events are less in a
+/// history that stands for a log: all by one shift, the number of its last event, the number that it has acknowledged,
+/// and that of each event that is pending. The events pending are the same, in the same order.
+pub fn numbers_are_less_by_one_shift<A: Allocator + Copy>()
+    ensures made { (s : Settings) → (by log : List (Entry A)) → (w : List ℕ) → IsShifted s by log → length (events s by w) + shift s by log w ≡ length (events s log w) }
+    ensures acked { (s : Settings) → (by log : List (Entry A)) → (w : List ℕ) → IsShifted s by log → acked by w + shift s by log w ≡ acked log w }
+    ensures told { (s : Settings) → (by log : List (Entry A)) → (w : List ℕ) → IsShifted s by log → to_tell s by w ≡ to_tell s log w }
+    ensures numbers { (s : Settings) → (by log : List (Entry A)) → (w : List ℕ) → IsShifted s by log → raised (shift s by log w) (pending s by w) ≡ map (λ (x : Event). x.number) (pending s log w) }
+{}
+
+/// Does nothing at run time: its contract tells a proof that a history that stands for a log goes on to do so with each
+/// later entry that the log accepts, if the number of an acknowledgement is made less by the shift, which stays as it
+/// was.
+pub fn what_stands_with_less_numbers_lasts<A: Allocator + Copy>()
+    ensures next { (s : Settings) → (by log : List (Entry A)) → (e : Entry A) → IsShifted s by log → legal s (e ∷ log) ≡ true → IsShifted s (shifted s by log e ∷ by) (e ∷ log) }
+    ensures ever { (s : Settings) → (by log later : List (Entry A)) → IsShifted s by log → legal s (later ++ log) ≡ true → IsShifted s (followed s later by log) (later ++ log) }
+    ensures shift { (s : Settings) → (by log later : List (Entry A)) → (w : List ℕ) → IsShifted s by log → legal s (later ++ log) ≡ true → shift s (followed s later by log) (later ++ log) w ≡ shift s by log w }
+{}
+
+/// Does nothing at run time: its contract tells a proof that a history that stands for a log decides each request as the
+/// log does, an acknowledgement by its lesser number, and replies the same if the log has room; except the creation of a
+/// step under the UID of a removed one. The answers to an N-GET and a query are the same (PS3.4 CC.2.7, CC.2.8).
+pub fn what_stands_with_less_numbers_replies_the_same<A: Allocator + Copy>()
+    ensures decided { (s : Settings) → (by log : List (Entry A)) → (e : Entry A) → IsShifted s by log → is_renewal s log e.request ≡ false
+        → decided s by (shifted s by log e) (shifted s by log e).request ≡ decided s log e e.request }
+    ensures reply { (s : Settings) → (by log : List (Entry A)) → (e : Entry A) → IsShifted s by log → is_renewal s log e.request ≡ false → length log < s.limit
+        → reply s by (shifted s by log e) ≡ reply s log e }
+    ensures got { (s : Settings) → (by log : List (Entry A)) → (step : Option (List ℕ)) → (tags : List Tag) → IsShifted s by log → got s by step tags ≡ got s log step tags }
+    ensures found { (s : Settings) → (by log : List (Entry A)) → (keys : KeySet) → IsShifted s by log → worklist s by keys ≡ worklist s log keys }
+{}
