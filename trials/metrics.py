@@ -27,7 +27,7 @@ import subprocess
 import sys
 import tempfile
 import time
-from collections.abc import Iterator
+from collections.abc import Iterator, Mapping
 from typing import Optional
 
 sys.path[:0] = [os.path.join(os.path.dirname(os.path.dirname(os.path.abspath(__file__))), it) for it in ("check/lib", "trials")]
@@ -41,7 +41,7 @@ from stored import Client, a_step_of, make_store
 PAUSE = 25.0  # seconds within which a page has to show what was asked before: one comes each 15
 COUNTED = 64.0  # seconds between two counts of what waits for watchers
 FOR_ALL = 0o644
-LINE = re.compile(r'(\w+)(?:\{((?:\w+="(?:[^"\\\n]|\\["\\n])*",?)+)\})? (\d+)')
+LINE = re.compile(r'(\w+)(?:\{((?:\w+="(?:[^"\\\n]|\\["\\n])*",?)+)\})? (\d+(?:\.\d+)?)')
 LABEL = re.compile(r'(\w+)="((?:[^"\\]|\\.)*)"')
 NAME = re.compile(r"upsd_\w+")
 MONITORING = os.path.join(HERE, "packaging/monitoring")
@@ -66,7 +66,7 @@ def page_in(file: str) -> Optional[str]:
         return None
 
 
-def numbers_in(page: str) -> dict[Sample, int]:
+def numbers_in(page: str) -> dict[Sample, float]:
     """Returns the numbers of a page; those that are no number of the format are left out, with their line as the name and -1."""
     found = {}
     for line in page.splitlines():
@@ -76,17 +76,17 @@ def numbers_in(page: str) -> dict[Sample, int]:
             found[sample(line)] = -1
             continue
         labels = {it[1]: unescaped(it[2]) for it in LABEL.finditer(told[2] or "")}
-        found[sample(told[1], **labels)] = int(told[3])
+        found[sample(told[1], **labels)] = float(told[3])
     return found
 
 
-def numbers_of(file: str) -> dict[Sample, int]:
+def numbers_of(file: str) -> dict[Sample, float]:
     return numbers_in(page_in(file) or "")
 
 
-def differences(file: str, wanted: dict[Sample, int], seconds: float = PAUSE) -> Optional[str]:
+def differences(file: str, wanted: Mapping[Sample, float], seconds: float = PAUSE) -> Optional[str]:
     """Waits until a file has these numbers, and returns those that it does not get in time."""
-    def missing() -> dict[Sample, tuple[int, Optional[int]]]:
+    def missing() -> dict[Sample, tuple[float, Optional[float]]]:
         now = numbers_of(file)
         return {it: (number, now.get(it)) for it, number in wanted.items() if now.get(it) != number}
 

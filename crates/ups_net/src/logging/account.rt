@@ -172,6 +172,11 @@ impl<'a> Account<'a> {
         }
     }
 
+    /// Notes how long it took from a read to the first bytes of the answer.
+    pub(crate) fn note_time(&self, time: Duration) {
+        self.tally.add_time(time);
+    }
+
     /// Notes which limit the peer ran into, if any.
     pub(crate) fn note_overrun(&self, overrun: Option<Overrun>) {
         self.overrun.set(overrun);

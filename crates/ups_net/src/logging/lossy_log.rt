@@ -2,7 +2,7 @@
 
 use crate::clock::moment_of;
 use crate::logging::heading::{Heading, LineStyle};
-use crate::logging::line_queue::{LineQueue, QueuedLine};
+use crate::logging::line_queue::{Batch, LineQueue};
 use libc::net::{POLLERR, POLLNVAL, POLLOUT, poll};
 use libc::types::pollfd;
 use log::kv::Source;
@@ -21,6 +21,9 @@ const STANDARD_ERROR: i32 = 2;
 const AT_ONCE: i32 = 0;
 
 const FOR_EVER: i32 = -1;
+
+/// The number of bytes for which a line has room before it grows.
+const USUAL: usize = 256;
 
 /// Logs to standard error from a thread of its own, so that no other thread is stopped by its log.
 ///
@@ -58,26 +61,37 @@ fn heading_of<R: Clock>(rt: &R, style: LineStyle, level: Level) -> Heading {
     Heading::new(style, level, moment_of(rt))
 }
 
-/// Writes a line once standard error takes some bytes, and before it how many lines were lost. Writes nothing if nobody
-/// is left to read it.
-fn write_line<R: Clock + Eprint>(rt: &R, style: LineStyle, line: QueuedLine) {
+/// Returns the text of a line with its heading and its line end.
+///
+/// # Errors
+///
+/// If memory runs out.
+fn text_of<D: Display>(alloc: Global, heading: Heading, line: &D) -> Result<String, AllocError> {
+    let mut text = String::with_capacity(alloc, USUAL)?;
+    write!(text, "{heading}{line}\n")?;
+    Ok(text)
+}
+
+/// Writes lines once standard error takes some bytes, and before them how many were lost. Writes nothing if nobody is
+/// left to read it.
+fn write_batch<R: Clock + Eprint>(rt: &R, style: LineStyle, batch: Batch) {
     if events(FOR_EVER) & (POLLERR | POLLNVAL) != 0 {
         return;
     }
-    let lost = line.lost;
+    let lost = batch.lost;
     if lost > 0 {
         let heading = heading_of(rt, style, Level::Warn);
         let _ = eprintln!(rt;
             "{heading}[WARN  upsd] {lost} lines of the log were lost: standard error took none"
         );
     }
-    let _ = rt.eprintln(line.text);
+    let _ = rt.eprint(batch.text);
 }
 
 /// Writes each line that is put into a queue, for as long as the program lives.
 fn write_lines<R: Wait + Clock + Eprint>(rt: &R, style: LineStyle, lines: &LineQueue) {
     for _ in rt.forever() {
-        write_line(rt, style, lines.next(rt));
+        write_batch(rt, style, lines.next(rt));
     }
 }
 
@@ -124,8 +138,8 @@ impl<R: Wait + Clock + Log> Log for LossyLog<R> {
     fn log<D: Display, K: Source, S: Spans>(&self, record: &Record<'_, D, K, S>) {
         if let Some(lines) = &self.lines {
             let heading = heading_of(&self.rt, self.style, record.level());
-            let line = Line::new(record);
-            lines.put(&self.rt, format!(in self.alloc; "{heading}{line}").ok());
+            let line = text_of(self.alloc, heading, &Line::new(record)).ok();
+            lines.put(&self.rt, line.as_ref().map(String::as_str));
         }
     }
 

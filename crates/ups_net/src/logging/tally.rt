@@ -6,6 +6,7 @@ use log::Log;
 use std::alloc::{AllocError, Global};
 use std::sync::atomic::{AtomicU64, Ordering};
 use std::sync::{Mutex, Wait};
+use std::time::Duration;
 
 /// The maximum number of refused requests of one peer with a line of their own in a minute.
 const MOST_TOLD: u64 = 30;
@@ -66,8 +67,8 @@ fn add_warned(peers: &mut Vec<String>, peer: String) -> bool {
     peers.push(peer).is_ok()
 }
 
-/// The counts of a server since its start: associations, answered requests, and refused ones. Only the log depends on
-/// them.
+/// The counts of a server since its start: associations, answered requests, and refused ones. Only the log and the file
+/// of numbers depend on them.
 pub struct Tally {
     associations: AtomicU64,
     requests: AtomicU64,
@@ -80,6 +81,8 @@ pub struct Tally {
     others: AtomicU64,
     /// The peers with a line in this minute about a sequence that was read as bytes.
     warned: Mutex<Vec<String>>,
+    /// The longest time until an answer since it was last taken, in nanoseconds.
+    longest: AtomicU64,
 }
 
 impl Drop for Tally {
@@ -92,6 +95,7 @@ impl Drop for Tally {
             peers: _,
             others: _,
             warned: _,
+            longest: _,
         } = self;
     }
 }
@@ -107,6 +111,7 @@ impl Tally {
             peers: Mutex::new(Vec::new(alloc)),
             others: AtomicU64::new(0),
             warned: Mutex::new(Vec::new(alloc)),
+            longest: AtomicU64::new(0),
         }
     }
 
@@ -119,6 +124,19 @@ impl Tally {
     pub(crate) fn add_request(&self, kind: RequestKind) {
         self.requests.fetch_add(1, Ordering::SeqCst);
         self.kinds.add(kind);
+    }
+
+    /// Notes how long an answer took.
+    pub(crate) fn add_time(&self, time: Duration) {
+        let time = u64::try_from(time.as_nanos()).unwrap_or(u64::MAX);
+        if time > self.longest.load(Ordering::SeqCst) {
+            self.longest.fetch_max(time, Ordering::SeqCst);
+        }
+    }
+
+    /// Takes the longest time until an answer since this was last called.
+    pub(crate) fn take_longest(&self) -> Duration {
+        Duration::from_nanos(self.longest.swap(0, Ordering::SeqCst))
     }
 
     /// Counts a refused request of a peer (None if memory ran out), and returns whether it gets a line of its own.

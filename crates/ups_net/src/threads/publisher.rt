@@ -13,7 +13,7 @@ use crate::transport::network::Network;
 use log::Log;
 use std::alloc::Global;
 use std::io::{self, Write};
-use std::time::Clock;
+use std::time::{Clock, Duration};
 use ups_ledger::Keeping;
 use ups_peers::Watcher;
 
@@ -29,6 +29,8 @@ struct Page<'a> {
     begun: u64,
     /// The number of connections that wait for a worker, if the system tells.
     waiting: Option<u64>,
+    /// The longest time until an answer since the last page.
+    longest: Duration,
     /// Whether the last try to commit failed, and whether only a restart helps.
     is_failing: bool,
     is_lost: bool,
@@ -114,6 +116,18 @@ fn operation_label(kind: RequestKind) -> Label<'static> {
         name: "operation",
         value: kind.name(),
     }
+}
+
+/// Writes the longest time until an answer since the last page.
+fn put_longest<W: Write>(writer: &mut W, page: &Page<'_>) -> io::Result<()> {
+    let longest = Metric::gauge(
+        "upsd_longest_answer_seconds",
+        "Longest time from a read of requests to the first bytes of their answers, with the commit, since the last page.",
+    );
+    put_heading(writer, &longest)?;
+    let seconds = page.longest.as_secs();
+    let micros = page.longest.subsec_micros();
+    write!(writer, "{} {seconds}.{micros:06}\n", longest.name)
 }
 
 /// Writes how many requests were answered, by kind.
@@ -241,6 +255,7 @@ fn put_page<W: Write>(writer: &mut W, alloc: Global, page: &Page<'_>) -> io::Res
     put_store(writer, page)?;
     put_workers(writer, page)?;
     put_associations(writer, page)?;
+    put_longest(writer, page)?;
     put_requests(writer, page.numbers.tally.kinds())?;
     put_refusals(writer, alloc, page.numbers.tally.kinds())?;
     put_reports(writer, &page.numbers)?;
@@ -299,6 +314,7 @@ impl Publisher {
             version: file.version.as_str(),
             begun: self.begun,
             waiting: state.door.count_waiting(rt),
+            longest: state.tally.take_longest(),
             is_failing: committer.is_failing(),
             is_lost: committer.is_lost(),
         };

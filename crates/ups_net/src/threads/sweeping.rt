@@ -1,5 +1,4 @@
-//! The sweeper: removes finished steps once a second, and warns before the history is full and while all workers are
-//! taken.
+//! The sweeper: removes finished steps once a second, and warns as the store grows and while all workers are taken.
 //!
 //! Between the sweeps it commits new entries if a ledger is kept, and rings for the deliverers when there are more
 //! requests than before.

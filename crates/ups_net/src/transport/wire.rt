@@ -94,6 +94,8 @@ pub struct Wire<'a, R: Wait + Clock + Log, D: Departing, K: Keeping, S: Sink> {
     begun: Cell<Option<Instant>>,
     /// Whether bytes came since the last answer was sent.
     is_unanswered: Cell<bool>,
+    /// When they last came, if an account learns how long the answer takes.
+    came: Cell<Option<Instant>>,
     /// When the first bytes since the last read were sent; for a watcher, the first bytes of what is being sent.
     answering: Cell<Option<Instant>>,
     /// The limit that the peer ran into.
@@ -192,6 +194,7 @@ impl<'a, R: Wait + Clock + Log, D: Departing, K: Keeping, S: Sink> Wire<'a, R, D
             arrival: Cell::new(Arrival::new()),
             begun: Cell::new(None),
             is_unanswered: Cell::new(false),
+            came: Cell::new(None),
             answering: Cell::new(None),
             overrun: Cell::new(None),
             is_open: Cell::new(false),
@@ -372,6 +375,7 @@ impl<'a, R: Wait + Clock + Log, D: Departing, K: Keeping, S: Sink> Wire<'a, R, D
     fn hear(&self, bytes: &[u8]) -> Result<(), WireFault> {
         if let Some(account) = self.account {
             account.hear(bytes);
+            self.came.set(Instant::now(self.rt).ok());
         }
         self.is_unanswered.set(true);
         let is_request = matches!(self.deadline, Deadline::Request(_));
@@ -420,6 +424,16 @@ impl<'a, R: Wait + Clock + Log, D: Departing, K: Keeping, S: Sink> Wire<'a, R, D
         if let Deadline::Answer(patience) = self.deadline {
             let elapsed = patience.since.elapsed(self.rt);
             self.opening.set(elapsed.unwrap_or(Duration::ZERO));
+        }
+    }
+
+    // Tells the account how long an answer took that is sent from `now` on.
+    fn note_time(&self, now: Instant) {
+        if let Some(account) = self.account
+            && let Some(came) = self.came.get()
+        {
+            account.note_time(now.duration_since(came));
+            self.came.set(None);
         }
     }
 
@@ -579,7 +593,9 @@ impl<'a, R: Wait + Clock + Log, D: Departing, K: Keeping, S: Sink> Pace for Wire
     fn left_to_write(&self) -> Result<Option<Duration>, WireFault> {
         let begun = self.answering.get();
         if begun.is_none() {
-            self.answering.set(Some(Instant::now(self.rt)?));
+            let now = Instant::now(self.rt)?;
+            self.answering.set(Some(now));
+            self.note_time(now);
         }
         match self.deadline {
             Deadline::Request(limits) => left_since(self.rt, limits.message, begun),
