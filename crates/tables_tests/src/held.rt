@@ -1,8 +1,8 @@
 use crate::steps::{digit_of, step_of};
 use fixtures::Refusing;
+use fixtures::rows::{check, check_same, cut, number};
 use std::alloc::{Allocator, Global};
 use std::fmt::Write;
-use std::process::Abort;
 use std::test::Fail;
 use ups_cycle::StepState;
 use ups_dataset::DataSet;
@@ -67,13 +67,13 @@ fn remove(alloc: Global, steps: &mut Steps<Global>, numbers: &str) -> Result<(),
 
 /// Does what a line says.
 fn act(alloc: Global, steps: &mut Steps<Global>, line: &str) -> Result<(), Fail> {
-    let (verb, words) = line.split_once(' ').ok_or("a verb")?;
+    let (verb, words) = cut(line, " ")?;
     if verb == "remove" {
         return remove(alloc, steps, words);
     }
-    let (number, moment) = words.split_once(' ').ok_or("a moment")?;
-    let step = step_of(alloc, number)?;
-    let moment = moment.parse::<u64>()?;
+    let (step, moment) = cut(words, " ")?;
+    let step = step_of(alloc, step)?;
+    let moment = number(moment)?;
     match verb {
         "push" => push(alloc, steps, step, moment),
         "put" => put(alloc, steps, step, moment),
@@ -127,33 +127,40 @@ push 5 50 = 12:1 31:3 50:5
 remove 3 = 12:1 50:5
 remove 1 5 =";
 
+/// Fails unless the list of the steps and their count are those of the text.
+fn check_listed(alloc: Global, steps: &Steps<Global>, held: &str) -> Result<(), Fail> {
+    check(
+        "the count",
+        held.split(':').count() == steps.len().saturating_add(1),
+    )?;
+    check_same("listed", steps_listed(alloc, steps, alloc)?.as_str(), held)
+}
+
 /// Does what a line says, and returns the steps that are held then.
 fn told(alloc: Global, steps: &mut Steps<Global>, line: &str) -> Result<String, Fail> {
     act(alloc, steps, line)?;
     let held = steps_held(alloc, steps)?;
-    if steps_listed(alloc, steps, alloc)?.as_str() != held.as_str() {
-        return Err("the list is another".into());
-    }
-    if held.split(':').count() != steps.len().saturating_add(1) {
-        return Err("the count is another".into());
-    }
+    check_listed(alloc, steps, held.as_str())?;
     Ok(held)
 }
 
+/// Does what a row says.
+fn row_is_so(alloc: Global, steps: &mut Steps<Global>, row: &str) -> Result<(), Fail> {
+    let (line, wanted) = cut(row, " =")?;
+    check_same(line, told(alloc, steps, line)?.as_str(), wanted)
+}
+
 /// Does what the rows say, one after the other.
-fn rows_are_so<R: Abort + AllocGlobal>(rt: &R, steps: &mut Steps<Global>) -> Result<(), Fail> {
+fn rows_are_so(alloc: Global, steps: &mut Steps<Global>) -> Result<(), Fail> {
     for row in CALLS.lines() {
-        let (line, wanted) = row.split_once(" =").ok_or("steps")?;
-        let found = told(rt.alloc(), steps, line)?;
-        assert!(rt; found.as_str() == wanted, "{line}: {found}");
+        row_is_so(alloc, steps, row)?;
     }
     Ok(())
 }
 
 #[test]
 fn steps_stay_in_the_order_of_their_creation(rt: HostRuntime) -> Result<(), Fail> {
-    let mut steps = Steps::new(rt.alloc());
-    rows_are_so(&rt, &mut steps)
+    rows_are_so(rt.alloc(), &mut Steps::new(rt.alloc()))
 }
 
 /// Makes room and lists the steps while the growth with this number is refused; returns whether both succeed, and the
@@ -179,17 +186,23 @@ fn listed_lacking(alloc: Global, growth: u64) -> Result<(bool, String), Fail> {
     listed_in(alloc, &heap, &mut steps, growth)
 }
 
+/// Returns whether both succeed; the steps must stay in either case.
+fn are_listed(alloc: Global, growth: u64) -> Result<bool, Fail> {
+    let (is_whole, steps) = listed_lacking(alloc, growth)?;
+    check_same("held", steps.as_str(), " 10:1")?;
+    Ok(is_whole)
+}
+
 #[test]
 fn steps_stay_where_a_growth_is_refused(rt: HostRuntime) -> Result<(), Fail> {
     let mut refused = 0u64;
     for growth in 1..20 {
-        let (is_whole, steps) = listed_lacking(rt.alloc(), growth)?;
-        assert_eq!(rt; steps.as_str(), " 10:1");
-        if !is_whole {
+        if !are_listed(rt.alloc(), growth)? {
             refused = growth;
         }
     }
-    // the places grow, and their index
-    assert!(rt; refused >= 2 && refused < 19, "{refused}");
-    Ok(())
+    check(
+        "the places grow, and their index",
+        refused >= 2 && refused < 19,
+    )
 }

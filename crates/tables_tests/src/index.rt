@@ -1,6 +1,6 @@
 use crate::steps::{digit_of, step_of};
 use fixtures::Refusing;
-use fixtures::rows::{check, cut};
+use fixtures::rows::{check, check_same, cut};
 use fixtures::words::set_of;
 use std::alloc::{AllocError, Allocator, Global};
 use std::test::Fail;
@@ -261,17 +261,23 @@ fn put_lacking(alloc: Global, growth: u64) -> Result<(bool, String), Fail> {
     put_in(alloc, &heap, &mut index, growth)
 }
 
+/// Returns whether that succeeds; what is found must fit.
+fn is_found(alloc: Global, growth: u64) -> Result<bool, Fail> {
+    let (is_put, steps) = put_lacking(alloc, growth)?;
+    check_same("found", steps.as_str(), if is_put { "12" } else { "1" })?;
+    Ok(is_put)
+}
+
 #[test]
 fn an_index_stays_where_a_growth_is_refused(rt: HostRuntime) -> Result<(), Fail> {
     let mut refused = 0u64;
     for growth in 1..20 {
-        let (is_put, steps) = put_lacking(rt.alloc(), growth)?;
-        assert_eq!(rt; steps.as_str(), if is_put { "12" } else { "1" });
-        if !is_put {
+        if !is_found(rt.alloc(), growth)? {
             refused = growth;
         }
     }
-    // at least two texts and their list grow
-    assert!(rt; refused >= 3 && refused < 19, "{refused}");
-    Ok(())
+    check(
+        "at least two texts and their list grow",
+        refused >= 3 && refused < 19,
+    )
 }

@@ -1,8 +1,8 @@
 use crate::steps::{digit_of, step_of};
 use fixtures::Refusing;
+use fixtures::rows::{check, check_same, cut, number};
 use std::alloc::{Allocator, Global};
 use std::fmt::Write;
-use std::process::Abort;
 use std::test::Fail;
 use ups_cycle::StepState;
 use ups_events::{AckFault, Queue, Queues};
@@ -57,9 +57,9 @@ fn outcome(answer: Result<(), AckFault>) -> &'static str {
 
 /// Does what a line says, and returns the outcome.
 fn act(alloc: Global, queue: &mut Queue<Global>, line: &str) -> Result<&'static str, Fail> {
-    let (verb, word) = line.split_once(' ').ok_or("a verb")?;
+    let (verb, word) = cut(line, " ")?;
     match verb {
-        "ack" => Ok(outcome(queue.ack(word.parse::<u64>()?))),
+        "ack" => Ok(outcome(queue.ack(number(word)?))),
         kind => {
             put(queue, report_of(alloc, kind, word)?)?;
             Ok("put")
@@ -110,20 +110,23 @@ fn told(alloc: Global, queue: &mut Queue<Global>, line: &str) -> Result<String, 
     Ok(format!(in alloc; "{outcome}{events}")?)
 }
 
+/// Does what a row says.
+fn row_is_so(alloc: Global, queue: &mut Queue<Global>, row: &str) -> Result<(), Fail> {
+    let (line, wanted) = cut(row, " = ")?;
+    check_same(line, told(alloc, queue, line)?.as_str(), wanted)
+}
+
 /// Does what the rows say, one after the other.
-fn rows_are_so<R: Abort + AllocGlobal>(rt: &R, queue: &mut Queue<Global>) -> Result<(), Fail> {
+fn rows_are_so(alloc: Global, queue: &mut Queue<Global>) -> Result<(), Fail> {
     for row in CALLS.lines() {
-        let (line, wanted) = row.split_once(" = ").ok_or("what it comes to")?;
-        let found = told(rt.alloc(), queue, line)?;
-        assert!(rt; found.as_str() == wanted, "{line}: {found}");
+        row_is_so(alloc, queue, row)?;
     }
     Ok(())
 }
 
 #[test]
 fn a_later_state_report_supersedes_the_one_before(rt: HostRuntime) -> Result<(), Fail> {
-    let mut queue = Queue::new(rt.alloc());
-    rows_are_so(&rt, &mut queue)
+    rows_are_so(rt.alloc(), &mut Queue::new(rt.alloc()))
 }
 
 /// Puts `count` State Reports, of the steps 1 and 2 in turn, after a request to cancel; returns the events that are
@@ -147,9 +150,8 @@ fn many(alloc: Global, count: u64) -> Result<(String, u64), Fail> {
 #[test]
 fn what_is_superseded_leaves_the_queue_however_much_it_is(rt: HostRuntime) -> Result<(), Fail> {
     let (events, made) = many(rt.alloc(), 1_000)?;
-    assert_eq!(rt; events.as_str(), " 1c1 1000s1 1001s2");
-    assert_eq!(rt; made, 1_001);
-    Ok(())
+    check("the greatest number", made == 1_001)?;
+    check_same("pending", events.as_str(), " 1c1 1000s1 1001s2")
 }
 
 /// Returns the events of two peers, of which the second gets two reports and acknowledges the first.
@@ -173,9 +175,8 @@ fn told_to_one(alloc: Global) -> Result<(String, String), Fail> {
 #[test]
 fn each_peer_has_a_queue_of_its_own(rt: HostRuntime) -> Result<(), Fail> {
     let (one, other) = told_to_one(rt.alloc())?;
-    assert_eq!(rt; one.as_str(), "");
-    assert_eq!(rt; other.as_str(), " 2s1");
-    Ok(())
+    check_same("the first", one.as_str(), "")?;
+    check_same("the second", other.as_str(), " 2s1")
 }
 
 /// Returns the digits of the entries to which queues may refer, of the first ten of the history.
@@ -210,9 +211,8 @@ fn referred(alloc: Global) -> Result<(String, String), Fail> {
 #[test]
 fn queues_refer_to_the_entries_of_pending_events(rt: HostRuntime) -> Result<(), Fail> {
     let (before, after) = referred(rt.alloc())?;
-    assert_eq!(rt; before.as_str(), "247");
-    assert_eq!(rt; after.as_str(), "27");
-    Ok(())
+    check_same("before", before.as_str(), "247")?;
+    check_same("after", after.as_str(), "27")
 }
 
 /// Adds events of the entries 7 and 3, the later one first, and returns whether the queue may refer to each.
@@ -228,8 +228,7 @@ fn referred_against_the_order(alloc: Global) -> Result<(bool, bool), Fail> {
 #[test]
 fn a_queue_refers_to_entries_in_any_order(rt: HostRuntime) -> Result<(), Fail> {
     let (later, earlier) = referred_against_the_order(rt.alloc())?;
-    assert!(rt; later && earlier);
-    Ok(())
+    check("both are referred to", later && earlier)
 }
 
 /// Makes room for events and takes what is pending while the growth with this number is refused; returns whether both
@@ -255,17 +254,23 @@ fn pending_lacking(alloc: Global, growth: u64) -> Result<(bool, String), Fail> {
     pending_in(alloc, &heap, &mut queue, growth)
 }
 
+/// Returns whether both succeed; the event must stay pending in either case.
+fn is_shown(alloc: Global, growth: u64) -> Result<bool, Fail> {
+    let (is_whole, events) = pending_lacking(alloc, growth)?;
+    check_same("pending", events.as_str(), " 1s1")?;
+    Ok(is_whole)
+}
+
 #[test]
 fn a_queue_stays_where_a_growth_is_refused(rt: HostRuntime) -> Result<(), Fail> {
     let mut refused = 0u64;
     for growth in 1..20 {
-        let (is_whole, events) = pending_lacking(rt.alloc(), growth)?;
-        assert_eq!(rt; events.as_str(), " 1s1");
-        if !is_whole {
+        if !is_shown(rt.alloc(), growth)? {
             refused = growth;
         }
     }
-    // the map of steps, the list of events and the returned list grow at least once each, and the rest succeeds
-    assert!(rt; refused >= 3 && refused < 19, "{refused}");
-    Ok(())
+    check(
+        "the map of steps, the list of events and the returned list grow at least once each, and the rest succeeds",
+        refused >= 3 && refused < 19,
+    )
 }

@@ -2,9 +2,9 @@ ghost use Rattle.std.specs.Prelude.{◌≡◌, ◌<◌, true, length, IfOk};
 ghost use Rattle.ups_watch.specs.Table.{knows};
 
 use crate::steps::step_of;
+use fixtures::rows::{check, check_same, cut};
 use fixtures::{Refusing, words};
 use std::alloc::{Allocator, Global};
-use std::process::Abort;
 use std::test::Fail;
 use ups_dataset::DataSet;
 use ups_life::{Place, StepUid, Subscription};
@@ -85,8 +85,8 @@ fn create<A: Allocator + Copy>(
 
 /// Subscribes a peer to a step.
 fn subscribe(alloc: Global, watchers: &mut Watchers<Global>, words: &str) -> Result<(), Fail> {
-    let (peer, words) = words.split_once(' ').ok_or("a peer")?;
-    let (step, letter) = words.split_once(' ').ok_or("a step")?;
+    let (peer, words) = cut(words, " ")?;
+    let (step, letter) = cut(words, " ")?;
     let peer = peer_of(watchers, peer)?;
     let step = known_step(alloc, watchers, step)?;
     watchers.subscribe(peer, step, subscription_of(letter)?);
@@ -95,7 +95,7 @@ fn subscribe(alloc: Global, watchers: &mut Watchers<Global>, words: &str) -> Res
 
 /// Ends the subscription of a peer to a step, or all of its subscriptions with `all`.
 fn unsubscribe(alloc: Global, watchers: &mut Watchers<Global>, words: &str) -> Result<(), Fail> {
-    let (peer, place) = words.split_once(' ').ok_or("a peer")?;
+    let (peer, place) = cut(words, " ")?;
     let peer = peer_of(watchers, peer)?;
     let place = match place {
         "all" => Place::Everywhere,
@@ -107,7 +107,7 @@ fn unsubscribe(alloc: Global, watchers: &mut Watchers<Global>, words: &str) -> R
 
 /// Gives a peer a global subscription to each step to come.
 fn cover(watchers: &mut Watchers<Global>, words: &str) -> Result<(), Fail> {
-    let (peer, letter) = words.split_once(' ').ok_or("a peer")?;
+    let (peer, letter) = cut(words, " ")?;
     let peer = peer_of(watchers, peer)?;
     let cover = Cover {
         keys: None,
@@ -119,7 +119,7 @@ fn cover(watchers: &mut Watchers<Global>, words: &str) -> Result<(), Fail> {
 
 /// Does what a line says.
 fn act(alloc: Global, watchers: &mut Watchers<Global>, line: &str) -> Result<(), Fail> {
-    let (verb, words) = line.split_once(' ').ok_or("a verb")?;
+    let (verb, words) = cut(line, " ")?;
     match verb {
         "create" => create(watchers, step_of(alloc, words)?, &DataSet::new(alloc)),
         "remove" => {
@@ -158,20 +158,17 @@ unsubscribe 2 all = ---,L--
 remove 1 = ,L--
 create 1 = ---,L--";
 
-/// Returns whether a row says how the peers are subscribed after what its line does.
-fn is_so(alloc: Global, watchers: &mut Watchers<Global>, row: &str) -> Result<bool, Fail> {
-    let (line, letters) = row.split_once(" = ").ok_or("letters")?;
+/// Does what the line of a row does, and fails if the row does not say how the peers are subscribed then.
+fn row_is_so(alloc: Global, watchers: &mut Watchers<Global>, row: &str) -> Result<(), Fail> {
+    let (line, letters) = cut(row, " = ")?;
     act(alloc, watchers, line)?;
-    Ok(letters_of(alloc, watchers)?.as_str() == letters)
+    check_same(line, letters_of(alloc, watchers)?.as_str(), letters)
 }
 
 /// Does what the rows say, one after the other.
-fn rows_are_so<R: Abort + AllocGlobal>(
-    rt: &R,
-    watchers: &mut Watchers<Global>,
-) -> Result<(), Fail> {
+fn rows_are_so(alloc: Global, watchers: &mut Watchers<Global>) -> Result<(), Fail> {
     for row in CALLS.lines() {
-        assert!(rt; is_so(rt.alloc(), watchers, row)?, "{row}");
+        row_is_so(alloc, watchers, row)?;
     }
     Ok(())
 }
@@ -179,7 +176,7 @@ fn rows_are_so<R: Abort + AllocGlobal>(
 #[test]
 fn peers_are_subscribed_as_they_ask(rt: HostRuntime) -> Result<(), Fail> {
     let mut watchers = Watchers::new(rt.alloc(), 3)?;
-    rows_are_so(&rt, &mut watchers)
+    rows_are_so(rt.alloc(), &mut watchers)
 }
 
 /// Subscribes two peers to a step, the first with a Deletion Lock and the second without; returns the number of locks,
@@ -210,8 +207,7 @@ fn locks_of(alloc: Global) -> Result<(usize, bool, bool, bool), Fail> {
 
 #[test]
 fn a_lock_keeps_a_step_until_it_ends(rt: HostRuntime) -> Result<(), Fail> {
-    assert_eq!(rt; locks_of(rt.alloc())?, (1, true, false, true));
-    Ok(())
+    check("locks", locks_of(rt.alloc())? == (1, true, false, true))
 }
 
 /// Gives the first peer a global subscription with a filter.
@@ -273,9 +269,7 @@ fn filtered(alloc: Global) -> Result<String, Fail> {
 
 #[test]
 fn a_filter_follows_a_change(rt: HostRuntime) -> Result<(), Fail> {
-    let found = filtered(rt.alloc())?;
-    assert_eq!(rt; found.as_str(), "F,- F,F");
-    Ok(())
+    check_same("filtered", filtered(rt.alloc())?.as_str(), "F,- F,F")
 }
 
 /// Creates the first step, and locks it for the second peer.
@@ -316,19 +310,25 @@ fn reserved_lacking(alloc: Global, growth: u64) -> Result<(bool, String), Fail> 
     reserved_in(alloc, &heap, &mut watchers, growth)
 }
 
+/// Returns whether that succeeds; the peers must stay subscribed in either case.
+fn is_reserved(alloc: Global, growth: u64) -> Result<bool, Fail> {
+    let (is_whole, letters) = reserved_lacking(alloc, growth)?;
+    check_same("subscribed", letters.as_str(), "-L-,")?;
+    Ok(is_whole)
+}
+
 #[test]
 fn a_table_stays_where_a_growth_is_refused(rt: HostRuntime) -> Result<(), Fail> {
     let mut refused = 0u64;
     for growth in 1..20 {
-        let (is_whole, letters) = reserved_lacking(rt.alloc(), growth)?;
-        assert_eq!(rt; letters.as_str(), "-L-,");
-        if !is_whole {
+        if !is_reserved(rt.alloc(), growth)? {
             refused = growth;
         }
     }
-    // at least two rows are made, and the rest succeeds
-    assert!(rt; refused >= 2 && refused < 19, "{refused}");
-    Ok(())
+    check(
+        "at least two rows are made, and the rest succeeds",
+        refused >= 2 && refused < 19,
+    )
 }
 
 /// Returns whether a table of three peers is made while the growth with this number is refused.
@@ -339,6 +339,6 @@ fn is_made(alloc: Global, growth: u64) -> bool {
 }
 
 #[test]
-fn a_table_takes_its_memory_at_once(rt: HostRuntime) {
-    assert!(rt; !is_made(rt.alloc(), 1) && is_made(rt.alloc(), 2));
+fn a_table_takes_its_memory_at_once(rt: HostRuntime) -> Result<(), Fail> {
+    check("made", !is_made(rt.alloc(), 1) && is_made(rt.alloc(), 2))
 }

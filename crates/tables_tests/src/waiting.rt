@@ -2,17 +2,17 @@ ghost use Rattle.std.specs.Prelude.{◌≤◌, length, OnOk};
 
 use crate::steps::{digit_of, step_of};
 use fixtures::Refusing;
+use fixtures::rows::{check, check_same, cut, number};
 use std::alloc::{Allocator, Global};
 use std::fmt::Write;
-use std::process::Abort;
 use std::test::Fail;
 use ups_keep::{Due, Final};
 
 /// Returns a step that has been final since a moment.
 fn final_of(alloc: Global, words: &str) -> Result<Final, Fail> {
-    let (moment, step) = words.split_once(' ').ok_or("a moment")?;
+    let (moment, step) = cut(words, " ")?;
     Ok(Final {
-        moment: moment.parse::<u64>()?,
+        moment: number(moment)?,
         step: step_of(alloc, step)?,
     })
 }
@@ -26,7 +26,7 @@ fn add<A: Allocator + Copy>(due: &mut Due<A>, step: Final) -> Result<(), Fail> {
 
 /// Does what a line says.
 fn act(alloc: Global, due: &mut Due<Global>, line: &str) -> Result<(), Fail> {
-    let (verb, words) = line.split_once(' ').ok_or("a verb")?;
+    let (verb, words) = cut(line, " ")?;
     match verb {
         "add" => add(due, final_of(alloc, words)?),
         "take" => {
@@ -34,7 +34,7 @@ fn act(alloc: Global, due: &mut Due<Global>, line: &str) -> Result<(), Fail> {
             Ok(())
         }
         "sweep" => {
-            due.sweep(words.parse::<u64>()?);
+            due.sweep(number(words)?);
             Ok(())
         }
         _ => Err("no verb".into()),
@@ -88,20 +88,23 @@ fn told(alloc: Global, due: &mut Due<Global>, line: &str) -> Result<String, Fail
     Ok(format!(in alloc; "{all} /{old}")?)
 }
 
+/// Does what a row says.
+fn row_is_so(alloc: Global, due: &mut Due<Global>, row: &str) -> Result<(), Fail> {
+    let (line, wanted) = cut(row, " =")?;
+    check_same(line, told(alloc, due, line)?.as_str(), wanted)
+}
+
 /// Does what the rows say, one after the other.
-fn rows_are_so<R: Abort + AllocGlobal>(rt: &R, due: &mut Due<Global>) -> Result<(), Fail> {
+fn rows_are_so(alloc: Global, due: &mut Due<Global>) -> Result<(), Fail> {
     for row in CALLS.lines() {
-        let (line, wanted) = row.split_once(" =").ok_or("steps")?;
-        let found = told(rt.alloc(), due, line)?;
-        assert!(rt; found.as_str() == wanted, "{line}: {found}");
+        row_is_so(alloc, due, row)?;
     }
     Ok(())
 }
 
 #[test]
 fn steps_wait_in_the_order_of_their_ends(rt: HostRuntime) -> Result<(), Fail> {
-    let mut due = Due::new(rt.alloc());
-    rows_are_so(&rt, &mut due)
+    rows_are_so(rt.alloc(), &mut Due::new(rt.alloc()))
 }
 
 /// Merges `count` steps, the last of which is the oldest, into a list of one; then keeps those that are final since an
@@ -123,14 +126,19 @@ fn merged(alloc: Global, count: u64) -> Result<String, Fail> {
     steps_up_to(alloc, &due, alloc, u64::MAX)
 }
 
+/// Fails unless the text of so many merged steps begins and ends as told.
+fn check_merged(alloc: Global, count: u64, front: &str, back: &str) -> Result<(), Fail> {
+    let text = merged(alloc, count)?;
+    check(
+        text.as_str(),
+        text.as_str().starts_with(front) && text.as_str().ends_with(back),
+    )
+}
+
 #[test]
 fn few_and_many_are_merged_in_order(rt: HostRuntime) -> Result<(), Fail> {
-    let few = merged(rt.alloc(), 4)?;
-    assert_eq!(rt; few.as_str(), " 50:1 98:2 100:2");
-    let many = merged(rt.alloc(), 40)?;
-    assert!(rt; many.starts_with(" 50:1 62:2 64:2"), "{many}");
-    assert!(rt; many.ends_with(" 98:2 100:2"), "{many}");
-    Ok(())
+    check_same("few", merged(rt.alloc(), 4)?.as_str(), " 50:1 98:2 100:2")?;
+    check_merged(rt.alloc(), 40, " 50:1 62:2 64:2", " 98:2 100:2")
 }
 
 /// Makes room and lists the steps while the growth with this number is refused; returns whether both succeed, and the
@@ -156,17 +164,23 @@ fn listed_lacking(alloc: Global, growth: u64) -> Result<(bool, String), Fail> {
     listed_in(alloc, &heap, &mut due, growth)
 }
 
+/// Returns whether both succeed; the steps must stay in either case.
+fn are_listed(alloc: Global, growth: u64) -> Result<bool, Fail> {
+    let (is_whole, steps) = listed_lacking(alloc, growth)?;
+    check_same("waiting", steps.as_str(), " 10:1")?;
+    Ok(is_whole)
+}
+
 #[test]
 fn a_list_stays_where_a_growth_is_refused(rt: HostRuntime) -> Result<(), Fail> {
     let mut refused = 0u64;
     for growth in 1..20 {
-        let (is_whole, steps) = listed_lacking(rt.alloc(), growth)?;
-        assert_eq!(rt; steps.as_str(), " 10:1");
-        if !is_whole {
+        if !are_listed(rt.alloc(), growth)? {
             refused = growth;
         }
     }
-    // the list itself grows once; the one that is returned does without its first growth if that is refused
-    assert!(rt; refused >= 1 && refused < 19, "{refused}");
-    Ok(())
+    check(
+        "the list itself grows once; the one that is returned does without its first growth if that is refused",
+        refused >= 1 && refused < 19,
+    )
 }
