@@ -30,7 +30,7 @@ what each step is.
 What was run is the prototype of this script, with upsd 0.2.0, on emulated processors (a host without KVM), whose times are no
 hospital's: server, power, cut (twice), disk, full, old, pause and hypervisor, with 658, 526, 340, 1,067, 4,225, 83, 579, 1,120 and
 487 requests answered before the fault. No check failed but 4 of `full`, whose UIDs were those of a run before (a UID now begins
-with the moment; the first `cut` may have met the same, and had no check of each answer as it came). Not run: switch, peer and all;
+with the moment; the first `cut` may have met the same, and had no check of each answer as it came). Not run: switch, peer and every;
 one run from nothing in one go (the image was made in two parts, and the cluster partly by hand); KVM; this script as it is. The
 prototype's server made its store itself (`upsd init` does now), had its options in the image (now on the volume), and was started
 by `systemd:upsd` (now by the resource agent of packaging/cluster, which trials/package.py tries without a cluster).
