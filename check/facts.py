@@ -50,7 +50,7 @@ RULES = {  # how CONTRIBUTING.md says these
 }
 # the constant of each fact: its crate, and its name in the sources
 CONSTANTS = {
-    "keep": ("ups_args", "KEEP"), "offset": ("ups_args", "OFFSET"),
+    "keep": ("ups_settings", "KEEP"), "offset": ("ups_settings", "OFFSET"),
     "max_workers": ("ups_peers", "MAX_WORKERS"), "workers": ("ups_peers", "WORKERS"),
     "idle": ("ups_peers", "IDLE"), "timeout": ("ups_peers", "TIMEOUT"), "delivery_timeout": ("ups_peers", "DELIVERY_TIMEOUT"),
     "version": ("ups_args", "VERSION"), "address": ("ups_args", "LOOPBACK"),

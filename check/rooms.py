@@ -26,7 +26,7 @@ CRATE = re.compile(r"(\w+):((?: \w+)*)")
 SECTION = re.compile(r"### ([a-z ]+): .*")
 
 # the folders of modules of a crate, the lowest one first
-LAYERS = {"ups_net": ["logging", "transport", "threads"]}
+LAYERS = {"ups_net": ["transport", "threads"]}
 
 Crates = dict[str, list[str]]  # what each crate uses
 Modules = dict[str, str]  # the text of each module of a crate, by its path in src

@@ -1,8 +1,8 @@
 #!/usr/bin/env python3
 """Has eight workstations share the steps of one server, and checks what a server does by itself, and what it leaves at its end.
 
-    check/sharing.py [PROGRAM] [--passes PASSES] [--steps 100] [--seed 1]
-                                     (default: crates/upsd/out/upsd, and crates/passes/out/passes)
+    check/sharing.py [PROGRAM] [--endings ENDINGS] [--steps 100] [--seed 1]
+                                     (default: crates/upsd/out/upsd, and crates/endings/out/endings)
 
 Each of eight workstations creates each step, claims it, sets what it has performed, finds it, finishes it and shows it: some
 5,600 requests. Each answer has to have a status that docs/use/conformance.md allows if another workstation may have been first.
@@ -15,7 +15,7 @@ the step is canceled and no longer kept, it has to be gone.
 
 If an association has the only worker and three connections wait, the log has to say how many.
 
-The program `passes` runs a server that ends: with one worker for two associations, with two workers for one each, and with one
+The program `endings` runs a server that ends: with one worker for two associations, with two workers for one each, and with one
 worker again and a ledger. In the first association W1 is subscribed to all steps and a step is created, of which W1 hears; in
 the second one the subscription ends and the step is canceled, and it is no longer kept. Once the desk is closed, the history
 has to have, in order, the requests of these associations by the passes of the workers, the acknowledgement by that of the
@@ -318,14 +318,14 @@ def kept_of(history: list[str]) -> list[str]:
     ]
 
 
-def tried_ending(passes: str, workers: int, associations: int, keeps: bool = False) -> Optional[str]:
+def tried_ending(endings: str, workers: int, associations: int, keeps: bool = False) -> Optional[str]:
     """Checks what a server leaves that has that many workers, each with that many associations, and maybe a ledger."""
     with socket.socket() as watcher:
         watcher.bind(("127.0.0.1", 0))
         watcher.listen()
         words = ["--keep", "0", "--associations", str(workers), f"W1=127.0.0.1:{watcher.getsockname()[1]}"]
         words += ["--store", "MEMORY"] if keeps else []
-        with Server([passes, str(associations), str(Ending.ROUNDS)], *words, error=subprocess.DEVNULL) as server:
+        with Server([endings, str(associations), str(Ending.ROUNDS)], *words, error=subprocess.DEVNULL) as server:
             guard = threading.Timer(runs.SECONDS, server.process.kill)
             guard.start()
             fault = Ending(server.port, watcher).serves()
@@ -337,12 +337,12 @@ def tried_ending(passes: str, workers: int, associations: int, keeps: bool = Fal
     return f"it ends with {status}, having told {told}"
 
 
-def try_endings(passes: str, results: Results) -> None:
+def try_endings(endings: str, results: Results) -> None:
     """Reports what three servers that run at the same time leave at their ends."""
     with concurrent.futures.ThreadPoolExecutor() as pool:
-        one = pool.submit(tried_ending, passes, 1, 2)
-        two = pool.submit(tried_ending, passes, 2, 1)
-        kept = pool.submit(tried_ending, passes, 1, 2, True)
+        one = pool.submit(tried_ending, endings, 1, 2)
+        two = pool.submit(tried_ending, endings, 2, 1)
+        kept = pool.submit(tried_ending, endings, 1, 2, True)
         results.tell("a server that ends leaves what its worker, its deliverer and its sweeper asked", one.result())
         results.tell("a server that ends leaves what its two workers, its deliverer and its sweeper asked", two.result())
         results.tell("the ledger of a server that ends has the records of its whole history", kept.result())
@@ -352,7 +352,7 @@ def main() -> None:
     about, _, more = (__doc__ or "").partition("\n\n")
     asked = argparse.ArgumentParser(description=about, epilog=more, formatter_class=argparse.RawDescriptionHelpFormatter)
     asked.add_argument("program", nargs="?", default="crates/upsd/out/upsd", help="the program (default: %(default)s)")
-    asked.add_argument("--passes", default="crates/passes/out/passes", help="that of servers that end (default: %(default)s)")
+    asked.add_argument("--endings", default="crates/endings/out/endings", help="that of servers that end (default: %(default)s)")
     asked.add_argument("--steps", type=int, default=100, help="how many steps there are (default: %(default)s)")
     asked.add_argument("--seed", type=int, default=1, help="when the workstations pause (default: %(default)s)")
     given = asked.parse_args()
@@ -360,7 +360,7 @@ def main() -> None:
     results.tell(*tried_sharing(program, given.steps, random.Random(given.seed)))
     try_alone(program, results)
     results.tell("the log tells how many connections wait for the only worker", tried_queue(program))
-    try_endings(os.path.abspath(given.passes), results)
+    try_endings(os.path.abspath(given.endings), results)
     results.end()
 
 

@@ -1,52 +1,64 @@
 //! `passes`: tells what the passes of a desk leave in its history, once their threads are done and the desk is closed.
 //! It is not part of the product.
 //!
-//! With the word `claims` and numbers of passes, that many passes for each number, each in its own thread, claim each of
-//! a hundred steps at the same time. Lines tell how many passes there are, how the claims were answered, how many
-//! entries a pass has seen once it has met all others, how many the history has, and how many of these no pass made;
-//! then one for each pass, whether it has as many as it had claims accepted.
-//!
-//! With any other words it is a server that ends. The first two are the number of associations that each worker serves
-//! and the number of rounds of the sweeper and of each deliverer; a command line of `upsd serve` follows. With port 0
-//! it prints its port first, as `upsd` does. Then a line for each entry of the history tells the number of the pass
-//! that made it, the title of the one who asked, and what was asked. With `--store` and any word its ledger keeps the
-//! records in memory. Three more lines then tell how many entries the history has and the passes have seen, how many
-//! are committed, and whether the ledger has their records.
+//! The words are numbers of passes. For each, that many passes, each in its own thread, claim each of a hundred steps at
+//! the same time. Lines tell how many passes there are, how the claims were answered, how many entries a pass has seen
+//! once it has met all others, how many the history has, and how many of these no pass made; then one for each pass,
+//! whether it has as many as it had claims accepted.
 #![tactic(auto)]
 
 mod claims;
-mod comparing;
-mod history;
-mod ledger;
-mod server;
-mod texts;
+mod outcome;
+mod race;
+mod steps;
 
-use crate::claims::tell_claims;
-use crate::server::tell_server;
-use crate::texts::{no_words, number_of};
-use log::Log;
+use crate::outcome::{RaceOutcome, tell_outcome};
+use crate::race::outcome_over;
+use crate::steps::with_steps;
 use std::io::{self, ErrorKind};
 use std::process::ExitCode;
 use std::sync::Wait;
 use std::thread::Threads;
-use std::time::Clock;
-use ups_net::Network;
+use ups_pdu::Ae;
 
-/// Does what the words ask for, the first of which is the name of the program.
+/// Makes that many passes claim each of a hundred steps at the same time, and returns the outcome.
 ///
-/// Errors: InvalidInput if the words are not valid; those of the network, and of the output; lack of memory.
-fn tell<R>(rt: &R, words: &[String]) -> io::Result<()>
-where
-    R: Threads + Wait + Clock + Log + Sync + AllocGlobal + Print + Eprint + Network,
-{
-    let first = words.get(1).ok_or(no_words())?;
-    if first.as_str() == "claims" {
-        return tell_claims(rt, &words[2..]);
+/// Errors: InvalidInput if no desk has so many; lack of memory.
+fn outcome_of<R: Threads + Wait + Sync + AllocGlobal>(
+    rt: &R,
+    seats: u32,
+) -> io::Result<RaceOutcome> {
+    let Some(ae) = Ae::of(b"PERFORM1") else {
+        return Err(io::Error::from(ErrorKind::InvalidInput));
+    };
+    let manager = with_steps(rt.alloc())?;
+    outcome_over(rt, rt.alloc(), ae, manager, seats)
+}
+
+/// Makes as many passes as a word says claim each of a hundred steps at the same time, and prints the outcome.
+///
+/// Errors: InvalidInput if the word is not the number of passes that a desk may have; those of the output; lack of
+/// memory.
+fn tell_race<R: Threads + Wait + Sync + AllocGlobal + Print>(rt: &R, word: &str) -> io::Result<()> {
+    let Ok(seats) = word.parse::<u32>() else {
+        return Err(io::Error::from(ErrorKind::InvalidInput));
+    };
+    let outcome = outcome_of(rt, seats)?;
+    tell_outcome(rt, &outcome)
+}
+
+/// Does the same for each word but the first, which is the name of the program.
+///
+/// Errors: InvalidInput if a word is not the number of passes that a desk may have; those of the output; lack of
+/// memory.
+fn tell_races<R: Threads + Wait + Sync + AllocGlobal + Print>(
+    rt: &R,
+    words: &[String],
+) -> io::Result<()> {
+    for word in words.iter().skip(1) {
+        tell_race(rt, word.as_str())?;
     }
-    let second = words.get(2).ok_or(no_words())?;
-    let associations = number_of(first.as_str())?;
-    let rounds = number_of(second.as_str())?;
-    tell_server(rt, &words[2..], associations, rounds)
+    Ok(())
 }
 
 /// Returns the words of the command line.
@@ -61,13 +73,13 @@ fn status_of<R: Eprint>(rt: &R, error: ErrorKind) -> ExitCode {
         let _ = eprintln!(rt; "passes: out of memory");
         return ExitCode::from(3);
     }
-    let _ = eprintln!(rt; "passes: the words ask for nothing, or the network or a write failed");
+    let _ = eprintln!(rt; "passes: a word is no number of passes, or a write failed");
     ExitCode::from(2)
 }
 
 fn main(rt: HostRuntime) -> ExitCode {
     let told = match words(&rt) {
-        Ok(words) => tell(&rt, &words),
+        Ok(words) => tell_races(&rt, &words),
         Err(error) => Err(error),
     };
     match told {

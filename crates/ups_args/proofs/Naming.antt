@@ -5,7 +5,7 @@ use Rattle.std.proofs.lemmas.Slice.Eq.{bytes_eq-Decides}
 use Rattle.ups_life.specs.declared.peer.Peer.{Peer}
 use Rattle.ups_settings.specs.Refusal.{is_named, is_twice, is_bad_offset, refusal}
 use Rattle.ups_life.specs.Limits.{history_limit}
-use Rattle.ups_args.specs.Limits.{local_offset}
+use Rattle.ups_settings.specs.Defaults.{local_offset}
 
 no : true ≡ false → ⊥
 no e = cc

@@ -15,7 +15,7 @@ use Rattle.ups_args.specs.declared.fault.ArgumentFault.TheVariants as faults
 use Rattle.ups_args.specs.declared.peers.PeerLine.{PeerLine}
 use Rattle.ups_args.specs.declared.peers.PeerLine.TheVariants as lines
 use Rattle.ups_peers.specs.Limits.{default_workers, delivery_seconds, idle_seconds, timeout_seconds, workers_limit}
-use Rattle.ups_args.specs.Limits.{keep_seconds, local_offset}
+use Rattle.ups_settings.specs.Defaults.{keep_seconds, local_offset}
 
 -- a number of seconds below 2^32, in decimal digits, with or without a + in front
 pub record SaysSeconds (word : List ℕ) (seconds : ℕ) : Type 0 where

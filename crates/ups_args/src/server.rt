@@ -9,7 +9,6 @@ ghost use Rattle.ups_settings.specs.Refusal.{refusal};
 ghost use Rattle.ups_pdu.specs.Title.{SpellsAe};
 
 use crate::fault::ArgumentFault;
-use crate::limits::LOOPBACK;
 use crate::options::{flag, worded};
 use crate::peers::{watchers_of, with_peers};
 use crate::script::script_arguments;
@@ -24,6 +23,9 @@ use ups_peers::{
     DELIVERY_TIMEOUT, IDLE, MAX_WORKERS, ServerLimits, TIMEOUT, TURNS, WORKERS, Watcher,
 };
 use ups_terms::StartChoices;
+
+/// The default address to listen on: the loopback address.
+const LOOPBACK: &str = "127.0.0.1";
 
 /// Adds the options for the address that a server listens on.
 fn with_door<'a>(alloc: Global, command: Command<'a>) -> Result<Command<'a>, AllocError> {

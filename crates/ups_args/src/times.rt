@@ -4,11 +4,11 @@ ghost use Rattle.std.specs.Prelude.{◌≡◌, ℕ, ℤ, option_map, IfErr, Matc
 ghost use Rattle.ups_args.specs.Arguments.{SaysKeep, SaysMinutes, SaysOffset, SaysSecondsOr};
 
 use crate::fault::ArgumentFault;
-use crate::limits::{KEEP, OFFSET};
 use crate::options::worded;
 use clap::Command;
 use std::alloc::{AllocError, Global};
 use ups_life::{MAX_OFFSET, MIN_OFFSET};
+use ups_settings::{KEEP, OFFSET};
 
 /// Adds the options for how long a finished step is kept, and for the local time.
 pub(crate) fn with_times<'a>(

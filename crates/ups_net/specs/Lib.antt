@@ -1,7 +1,5 @@
 pub mod Delivering
-pub mod Journal
 pub mod Leaving
-pub mod Metrics
 pub mod Sending
 pub mod Serving
 pub mod Sharing

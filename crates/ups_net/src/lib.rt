@@ -3,22 +3,16 @@
 //! Nothing is promised about what a socket carries, or when: a contract here says what becomes of the passes, whatever
 //! was read. No contract covers time limits, the start of a round or the door.
 //!
-//! The folders are layers: the log, the transport connection, the threads. A module uses those of its own folder, of the
-//! folders before it, and the ones beside them, which use none.
+//! The folders are layers: the transport connection, the threads. A module uses those of its own folder, of the folder
+//! before it, and the ones beside them, which use none.
 #![tactic(auto)]
 
 mod clock;
-mod logging;
 mod requests;
 mod threads;
 mod transport;
 
-pub use clock::{HostClock, moment_of};
-pub use logging::account::Account;
-pub use logging::heading::LineStyle;
-pub use logging::journal::end_told;
-pub use logging::lossy_log::LossyLog;
-pub use logging::tally::Tally;
+pub use clock::HostClock;
 pub use threads::delivering::deliver_rounds;
 pub use threads::options::{MetricsFile, ServerOptions};
 pub use threads::roster::{Roster, Share, is_passed_over, longer_pause, may_take, share_of};

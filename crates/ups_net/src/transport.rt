@@ -10,6 +10,7 @@ pub(crate) mod network;
 pub(crate) mod outbox;
 pub(crate) mod outward;
 pub(crate) mod patience;
+pub(crate) mod responses;
 pub(crate) mod sink;
 pub(crate) mod socket;
 pub(crate) mod supervisor;

@@ -1,6 +1,3 @@
 pub mod Contents
-pub mod Hexing
-pub mod Limits
-pub mod Piping
 pub mod Statuses
 pub mod Storing

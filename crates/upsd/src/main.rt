@@ -2,16 +2,12 @@
 #![tactic(auto)]
 
 ghost use Rattle.std.specs.Prelude.{◌≡◌, ◌≤◌, length, None};
-ghost use Rattle.ups_args.specs.Limits.{local_offset};
+ghost use Rattle.ups_settings.specs.Defaults.{local_offset};
 ghost use Rattle.ups_settings.specs.Refusal.{refusal};
 ghost use Rattle.ups_life.specs.Limits.{history_limit, peer_limit};
 
 mod ending;
-mod gate;
-mod hexing;
-mod limits;
 mod naming;
-mod piping;
 mod place;
 mod scripting;
 mod storing;
@@ -22,10 +18,7 @@ use crate::scripting::answer_script;
 use crate::storing::{Stores, perform_compact, perform_init, terms_asked};
 use clap::ArgMatches;
 pub use ending::{ExitStatus, parse_status, script_status, session_status};
-pub use hexing::DigitFault;
-pub use limits::limits_are_as_defined;
 use log::{LevelFilter, Log, Logged};
-pub use piping::{Piped, pipe_told};
 use std::alloc::{AllocError, Global};
 use std::io::{self, BufReader, ErrorKind};
 use std::process::ExitCode;
@@ -34,11 +27,14 @@ use std::sync::Wait;
 use std::thread::Threads;
 use std::time::Clock;
 use ups_args::{PipeArguments, command, pipe_arguments, script_arguments};
-use ups_net::{LineStyle, LossyLog, Network};
+use ups_log::{LineStyle, LossyLog};
+use ups_net::Network;
 pub use ups_net::{ServerOptions, work};
 use ups_peers::TURNS;
+use ups_pipe::{Piped, pipe_told};
 pub use ups_server::{RanServer, answer_network, check_words, serve_words};
-pub use ups_session::{End, SessionFault, WatchedReader, WatchedWriter};
+pub use ups_session::{End, SessionFault};
+use ups_session::{WatchedReader, WatchedWriter};
 
 /// Answers one association from standard input to standard output, prints its fault, and returns how the program ends.
 ///
@@ -234,20 +230,23 @@ fn asks_for_log(words: &[String]) -> bool {
     }
 }
 
-/// Returns the log of the program: one with its own thread if the command line asks for something that logs.
+/// Returns the log of the program: one with its own thread, which writes to `output`, if the command line asks for
+/// something that logs.
 ///
 /// Errors: lack of memory, or of a thread.
-fn log_of<R>(
+fn log_of<R, O>(
     rt: R,
+    output: O,
     alloc: Global,
     style: LineStyle,
     words: &[String],
 ) -> Result<LossyLog<R>, AllocError>
 where
-    R: Threads + Wait + Clock + Eprint + Copy + Send + 'static,
+    R: Threads + Wait + Clock + Copy + Send + 'static,
+    O: Print + Drop + Send + 'static,
 {
     if asks_for_log(words) {
-        return LossyLog::start(rt, alloc, style);
+        return LossyLog::start(rt, output, alloc, style);
     }
     Ok(LossyLog::silent(rt, alloc))
 }
@@ -257,7 +256,7 @@ fn main(rt: HostRuntime) -> ExitCode {
         Ok(words) => words,
         Err(error) => return ExitCode::from(unread(&rt, error.kind())),
     };
-    let log = match log_of(rt, rt.alloc(), LineStyle::of(&rt), &words) {
+    let log = match log_of(rt, rt.stderr(), rt.alloc(), LineStyle::of(&rt), &words) {
         Ok(log) => log,
         Err(fault) => return ExitCode::from(end_of(&rt, Err(fault))),
     };

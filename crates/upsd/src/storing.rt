@@ -19,8 +19,8 @@ use ups_args::{
 use ups_journal::Record;
 use ups_ledger::{Keeper, Ledger, LedgerFault};
 use ups_life::{MAX_PEERS, Peer};
+use ups_log::moment_of;
 use ups_manager::Manager;
-use ups_net::moment_of;
 use ups_server::{StoreOpener, Unopened};
 use ups_settings::ManagerFault;
 use ups_start::{

@@ -7,8 +7,6 @@ ghost use Rattle.ups_ledger.specs.Behind.{AreBehind};
 ghost use Rattle.ups_ledger.specs.Grouping.{most_in};
 ghost use Rattle.ups_ledger.specs.Keeping.{KeeperGoesOn, HasWatched};
 
-use crate::clock::moment_of;
-use crate::logging::journal::{tell_recovered, tell_uncommitted};
 use crate::threads::monitor::{MINUTE, Reminder};
 use crate::threads::roster::Roster;
 use crate::threads::site::Site;
@@ -18,6 +16,7 @@ use std::sync::Wait;
 use std::thread;
 use std::time::{Clock, Duration, Instant};
 use ups_ledger::{CommitFault, Commits, Group, Keeper, Keeping, Ledger, LedgerFault};
+use ups_log::{moment_of, tell_recovered, tell_uncommitted};
 use ups_service::SharedService;
 use ups_turn::{Desk, Pass};
 

@@ -5,10 +5,7 @@ ghost use Rattle.ups_net.specs.Leaving.{HasLeft};
 ghost use Rattle.ups_net.specs.Sending.{HasSent};
 ghost use Rattle.ups_net.specs.Delivering.{DeliversRounds, DeliversAssociation, AsksPending, CountsPending, FindsPending, DeliversTo, DeliversToAll};
 
-use crate::clock::{HostClock, moment_of};
-use crate::logging::journal::{
-    Delivered, Tried, end_told, tell_away, tell_back, tell_crowd, tell_digest, tell_tried,
-};
+use crate::clock::HostClock;
 use crate::threads::counted::Counted;
 use crate::threads::options::ServerOptions;
 use crate::threads::roster::{Presence, Roster, Share};
@@ -31,6 +28,10 @@ use std::sync::ledger::{Blank, Share as Part};
 use std::time::{Clock, Duration, Instant};
 use ups_ledger::{CommitDue, Keeping, Withheld};
 use ups_life::{Ask, Reply};
+use ups_log::{
+    Delivered, Tried, end_told, moment_of, tell_away, tell_back, tell_crowd, tell_digest,
+    tell_tried,
+};
 use ups_pdu::Ae;
 use ups_peers::Watcher;
 use ups_service::{Service, SharedService};

@@ -2,12 +2,11 @@
 
 ghost use Rattle.std.specs.Prelude.{◌≡◌};
 
-use crate::logging::account::Account;
-use crate::logging::audit::{AuditedAsk, tell_done};
 use log::Log;
 use std::alloc::Global;
 use ups_dataset::{DataSet, Element, ITEM, Tag, Value, Vr};
 use ups_life::{Ask, Reply};
+use ups_log::{Account, AuditedAsk, tell_done};
 use ups_pdu::Ae;
 use ups_service::Service;
 

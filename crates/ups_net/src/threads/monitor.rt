@@ -1,7 +1,5 @@
 //! What the sweeper checks and logs besides its sweeps.
 
-use crate::clock::moment_of;
-use crate::logging::journal::tell_growth;
 use crate::threads::delivering::tell_unlogged;
 use crate::threads::numbers::{Numbers, tell_numbers};
 use crate::threads::options::ServerOptions;
@@ -12,6 +10,7 @@ use log::Log;
 use std::sync::Wait;
 use std::time::Clock;
 use ups_ledger::Keeping;
+use ups_log::{moment_of, tell_growth};
 use ups_peers::Watcher;
 
 /// The number of requests of a store after each of which its growth is logged.

@@ -1,13 +1,12 @@
 //! The numbers of a server, for its log.
 
-use crate::logging::journal::title_of;
-use crate::logging::tally::Tally;
 use crate::threads::options::ServerOptions;
 use crate::threads::roster::Roster;
 use crate::threads::server_state::ServerState;
 use log::{Log, info};
 use std::fmt;
 use ups_ledger::Keeping;
+use ups_log::{Tally, title_of};
 use ups_peers::Watcher;
 
 /// The numbers of a server, as a line of its log shows them.

@@ -1,9 +1,5 @@
 //! The numbers of a server in a file, for a monitor.
 
-use crate::clock::moment_of;
-use crate::logging::journal::{tell_unwritten, title_of};
-use crate::logging::kinds::{KINDS, KindCount, KindCounts, RequestKind, StatusCount};
-use crate::logging::metrics::{Label, Labels, Metric, put_heading, put_metric, put_sample};
 use crate::threads::committer::Committer;
 use crate::threads::monitor::{MINUTE, Reminder};
 use crate::threads::numbers::Numbers;
@@ -15,6 +11,10 @@ use std::alloc::Global;
 use std::io::{self, Write};
 use std::time::{Clock, Duration};
 use ups_ledger::Keeping;
+use ups_log::{
+    KINDS, KindCount, KindCounts, Label, Labels, Metric, RequestKind, StatusCount, moment_of,
+    put_heading, put_metric, put_sample, tell_unwritten, title_of,
+};
 use ups_peers::Watcher;
 
 /// The number of seconds between two pages.

@@ -4,13 +4,12 @@ ghost use Rattle.std.specs.Prelude.{◌≡◌, ◌+◌, ◌*◌, ◌<◌, ◌≤
 ghost use Rattle.ups_net.specs.declared.threads.roster.Share.TheVariants.{All, Quick};
 ghost use Rattle.ups_net.specs.Sharing.{may_take};
 
-use crate::clock::moment_of;
-use crate::logging::digest::UnloggedDeliveries;
 use crate::threads::bell::Bell;
 use std::alloc::{AllocError, Global};
 use std::sync::Wait;
 use std::sync::atomic::{AtomicU64, Ordering};
 use std::time::Clock;
+use ups_log::{UnloggedDeliveries, moment_of};
 
 /// The maximum number of seconds for which a watcher is passed over.
 const LONGEST: u64 = 60;

@@ -1,10 +1,10 @@
 //! What the threads of a server share, besides its desk.
 
-use crate::logging::tally::Tally;
 use crate::threads::roster::Roster;
 use crate::transport::door::Door;
 use std::alloc::{AllocError, Global};
 use ups_ledger::{Commits, Keeping};
+use ups_log::Tally;
 
 /// What the threads of a server share, besides its desk: the door, the roster of its watchers, the counts for its log,
 /// and the number of committed entries of its history.

@@ -7,7 +7,6 @@ ghost use Rattle.ups_net.specs.Sending.{HasSent};
 ghost use Rattle.ups_net.specs.Serving.{ServesAssociation};
 
 use crate::clock::HostClock;
-use crate::logging::account::Account;
 use crate::threads::inspected::Inspected;
 use crate::threads::options::ServerOptions;
 use crate::threads::site::Site;
@@ -26,6 +25,7 @@ use std::sync::Wait;
 use std::sync::ledger::{Blank, Share};
 use std::time::{Clock, Duration};
 use ups_ledger::{CommitDue, Commits, Keeping, Withheld};
+use ups_log::Account;
 use ups_service::SharedService;
 use ups_session::{End, SessionFault, WatchedReader, WatchedWriter, serve};
 use ups_turn::{Fixed, Pass, Seated};

@@ -8,8 +8,6 @@ ghost use Rattle.ups_ledger.specs.Backed.{Backs};
 ghost use Rattle.ups_ledger.specs.Keeping.{HasWatched, KeepersGoOn};
 ghost use Rattle.ups_net.specs.Sweeping.{LooksIfKept, Sweeps, SweepsOnce};
 
-use crate::clock::moment_of;
-use crate::logging::audit::tell_swept;
 use crate::threads::committer::{Committer, REST, ROUND, left_of_round};
 use crate::threads::monitor::Monitor;
 use crate::threads::options::ServerOptions;
@@ -26,6 +24,7 @@ use std::thread;
 use std::time::{Clock, Duration, Instant};
 use ups_ledger::{Keeper, Keeping, Ledger};
 use ups_life::{Ask, Request};
+use ups_log::{moment_of, tell_swept};
 use ups_pdu::Ae;
 use ups_service::{Service, SharedService};
 use ups_turn::{Desk, Pass};

@@ -11,8 +11,6 @@ ghost use Rattle.ups_ledger.specs.Keeping.{KeepersGoOn};
 ghost use Rattle.ups_net.specs.Working.{EndsThread, EndThreads, Ran, seen_last};
 ghost use Rattle.ups_net.specs.declared.threads.options.ServerOptions.{ServerOptions};
 
-use crate::logging::account::Account;
-use crate::logging::journal::end_told;
 use crate::threads::delivering::deliver_rounds;
 use crate::threads::options::ServerOptions;
 use crate::threads::server_state::ServerState;
@@ -30,6 +28,7 @@ use std::sync::{OnceLock, OnceToken, Wait};
 use std::thread::{self, Promise, PromisedHandle, Threads};
 use std::time::Clock;
 use ups_ledger::{Keeper, Keeping, Ledger};
+use ups_log::{Account, end_told};
 use ups_service::SharedService;
 use ups_turn::{Desk, Pass};
 

@@ -1,7 +1,5 @@
 //! The door of a server: which connection a worker serves next.
 
-use crate::clock::moment_of;
-use crate::logging::journal::tell_all_taken;
 use crate::transport::connection::Connection;
 use crate::transport::network::Network;
 use crate::transport::socket::{lengthen_queue, limit_of};
@@ -12,6 +10,7 @@ use std::sync::Wait;
 use std::sync::atomic::{AtomicBool, AtomicU64, Ordering};
 use std::thread;
 use std::time::{Clock, Duration};
+use ups_log::{moment_of, tell_all_taken};
 
 /// The number of milliseconds of one look for the first bytes of a connection.
 const LOOK: u64 = 20;

@@ -2,10 +2,10 @@
 
 ghost use Rattle.std.specs.Prelude.{◌≡◌, ◌<◌};
 
-use crate::clock::milliseconds_of;
 use crate::transport::connection::Inlet;
 use crate::transport::door::Door;
 use std::time::{Clock, Duration};
+use ups_log::milliseconds_of;
 
 /// The number of milliseconds that a look at the door waits before the next one: while others wait there, and while a
 /// worker is free.

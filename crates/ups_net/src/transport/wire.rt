@@ -4,9 +4,6 @@ ghost use Rattle.std.specs.Prelude.{◌≡◌, ◌≤◌, true, length, IfOk};
 ghost use Rattle.ups_ledger.specs.Backed.{IsBacked};
 ghost use Rattle.ups_net.specs.Leaving.{HasLeft};
 
-use crate::logging::account::Account;
-use crate::logging::journal::{Overrun, reason_in};
-use crate::logging::responses::{Failures, Responses};
 use crate::requests::Requests;
 use crate::transport::arrival::Arrival;
 use crate::transport::connection::{Inlet, is_shorter};
@@ -14,6 +11,7 @@ use crate::transport::grace::{Pressure, Seen, Stay};
 use crate::transport::outbox::{CommitWait, Outbox, Pace};
 use crate::transport::outward::Departing;
 use crate::transport::patience::{Patience, left_of};
+use crate::transport::responses::Responses;
 use crate::transport::sink::Sink;
 use crate::transport::wire_fault::WireFault;
 use log::Log;
@@ -24,6 +22,7 @@ use std::sync::ledger::Share;
 use std::sync::{Mutex, Wait};
 use std::time::{Clock, Duration, Instant};
 use ups_ledger::{CommitDue, Keeping};
+use ups_log::{Account, Failures, Overrun, reason_in};
 use ups_pdu::PduKind;
 
 /// The number of waiting bytes from which on they are sent at once.

@@ -1,0 +1,3 @@
+pub mod Hexing
+pub mod Limits
+pub mod Piping
