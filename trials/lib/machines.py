@@ -180,7 +180,7 @@ class Machine:
     def fill_volume(self, folder: str, options: str) -> None:
         """Makes a store and the options of `serve` on a volume that is mounted there."""
         self.says(f"chown upsd: {folder} && chmod 700 {folder} && runuser -u upsd -- upsd init {folder}/upsd.db", check=True)
-        self.says(f"cat > {folder}/{os.path.basename(OPTIONS_FILE)}", check=True, given=f'UPSD_OPTIONS="{options}"\n')
+        self.says(f"cat > {folder}/{os.path.basename(OPTIONS_FILE)} && sync", check=True, given=f'UPSD_OPTIONS="{options}"\n')
 
 
 def network() -> None:
@@ -220,6 +220,11 @@ def configure(a: Machine, b: Machine, options: str) -> None:
     put(a.path("configured"), "")
 
 
+def are_alike(*machines: Machine) -> bool:
+    """Returns whether each of these machines sees its disk and that of the other one alike."""
+    return all("ds:UpToDate/UpToDate" in it.says("cat /proc/drbd") for it in machines)
+
+
 def up(machines: dict[str, Machine], options: str, answers: Callable[[], bool]) -> None:
     """Starts the three machines, and waits for an answer; the first time it makes the volume and configures the cluster."""
     network()
@@ -233,3 +238,6 @@ def up(machines: dict[str, Machine], options: str, answers: Callable[[], bool]) 
         configure(a, b, options)
     if not holds(answers, PATIENCE):
         raise OSError("no answer: " + a.says("crm_mon -1rf; journalctl -b -n 50 --no-pager"))
+    # a standby that connects later stops the disk's writes for a while
+    if not holds(lambda: are_alike(a, b), PATIENCE):
+        raise OSError("the disks are not alike: " + a.says("cat /proc/drbd; crm_mon -1rf"))
