@@ -30,12 +30,13 @@ what each step is.
 What was run, on emulated processors (a host without KVM) that other work shared, whose times are no hospital's:
 
 - on 2026-11-29, of this script: make, up, power, cut, server and peer in one go from nothing, with 77, 409, 502 and 332 requests
-  answered before the fault, and no check failed; full, whose volume took eight minutes to fill then, with 11,019, so that the server
-  did not answer the check that it serves in time; and hypervisor. After power and cut reads were answered again within 91 and 96 s.
+  answered before the fault; then, with the proved program, switch, disk, full, old and every with 1,667, 3,136, 1,048, 1,519 and
+  595. No check of these failed. After power, cut and switch reads were answered again within 91, 96 and 76 s. Before that the
+  trial itself had faults, which showed in full and hypervisor, and are mended.
 - before, of its prototype with upsd 0.2.0: power, cut (twice), disk, full, old, pause and hypervisor. No check failed but 4 of full,
   whose UIDs were those of a run before (a UID now begins with the moment).
 
-Not run: switch and every, all to its end, KVM.
+Not run since: pause and hypervisor, all to its end, KVM.
 
 It needs root, and qemu-system-x86, qemu-utils, debootstrap, e2fsprogs, openssh-client and python3-pydicom. --work names the folder
 for the machines (one in memory, if the disk is busy), --program the program; --kvm runs the machines by KVM, and otherwise they are
