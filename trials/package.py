@@ -352,7 +352,9 @@ def try_backup(machine: Machine, results: Results) -> None:
     results.tell("which is root's alone", unless(modes == "root 700\nroot 600", modes))
     machine.run("ups", "create", "1.2.9.9")
     before = machine.of_unit("MainPID")
-    machine.run("sh", "-c", f"cp -a {backup} {BACKUPS}/damaged && dd if=/dev/zero of={BACKUPS}/damaged/upsd.db bs=100 count=9 conv=notrunc")
+    # the log too: with its own first page the store would be whole
+    machine.run("sh", "-c", f"cp -a {backup} {BACKUPS}/damaged && cd {BACKUPS}/damaged && "
+                "for it in upsd.db upsd.db-wal; do dd if=/dev/zero of=$it bs=100 count=9 conv=notrunc; done")
     ran = machine.run("upsd-backup", "restore", f"{BACKUPS}/damaged")
     results.tell("a damaged backup is refused", unless(ran.returncode == 1 and "does not take" in ran.stderr, ran.stderr))
     results.tell("and the server goes on", unless(machine.of_unit("MainPID") == before, "it was restarted") or listens(machine))
