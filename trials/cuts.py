@@ -622,14 +622,13 @@ class Cuts:
 # a compaction
 
 def record_compaction(program: list[str], folder: str) -> Recording:
-    """Records a compaction of a store most of whose steps are gone."""
+    """Records a compaction of a store most of whose steps are gone, and no report of these waits."""
     file, log, words = os.path.join(folder, "compacted"), os.path.join(folder, "strace"), ["--keep", "0", *PEERS]
     with Stored(program, file, *words) as server:
         client = Client(server.port)
         for number in range(60):
             uid = b"1.3.%d" % number
-            statuses = [client.create(uid, a_step_of(b"P")), client.subscribe(uid, b"W1", b"FALSE")]
-            statuses += [client.cancel(uid)] if number % 4 else []
+            statuses = [client.create(uid, a_step_of(b"P")), client.cancel(uid) if number % 4 else client.subscribe(uid, b"W1", b"FALSE")]
             if any(statuses):
                 raise Fault(f"the work before a compaction is answered {statuses}")
         if not holds(lambda: len(client.found()) == 15, SECONDS):

@@ -161,10 +161,6 @@ class Picture:
     def held(self) -> set[bytes]:
         return {text_in(it, SOP_INSTANCE) for it in self.found}
 
-    def of_held(self, reports: list[Report]) -> list[Report]:
-        held = self.held()
-        return [it for it in reports if it.uid in held]
-
 
 def await_quiet(watchers: dict[str, Hearing]) -> None:
     """Waits until no watcher is told anything for QUIET seconds."""
@@ -231,8 +227,9 @@ def tell_same(name: str, one: Picture, other: Picture, results: Results) -> None
         is_same = one.answers[what] == other.answers[what]
         results.tell(f"{name}: {what}, {len(one.answers[what])} requests", None if is_same else f"{len(wrong)} differ: {wrong[:3]}")
     for watcher in NAMES:
-        wanted, found = one.of_held(one.reports[watcher]), other.of_held(other.reports[watcher])
-        results.tell(f"{name}: what is pending for {watcher}, {len(wanted)} events of steps held", differing(wanted, found))
+        wanted, found = one.reports[watcher], other.reports[watcher]
+        removed = sum(it.uid not in one.held() for it in wanted)
+        results.tell(f"{name}: what is pending for {watcher}, {len(wanted)} events, {removed} of removed steps", differing(wanted, found))
         wanted, found = current(one.provoked[watcher]), current(other.provoked[watcher])
         results.tell(f"{name}: what {watcher} is told then, {len(wanted)} events", differing(wanted, found))
 
@@ -256,7 +253,7 @@ def differing(one: list[Report], other: list[Report]) -> Optional[str]:
 
 def check_good(picture: Picture, results: Results) -> None:
     """Fails if the day is not answered as it must be for the comparison to mean anything."""
-    counts = {what: len(it) for what, it in picture.answers.items()} | {name: len(picture.of_held(it)) for name, it in picture.reports.items()}
+    counts = {what: len(it) for what, it in picture.answers.items()} | {name: len(it) for name, it in picture.reports.items()}
     print(f"    the day: {len(picture.got)} steps, {len(picture.found)} held; {counts}", flush=True)
     of_state = {uid: text_in(it or {}, STATE) for uid, it in picture.got.items()}
     good = all(status == (0x0111) for _, status in picture.answers["again"])
@@ -275,7 +272,7 @@ def run_compact(program: list[str], given: argparse.Namespace, results: Results)
         check_good(plain, results)
         by_command(program, file, folder, day, rows, plain, results)
         cut_off(program, file, folder, given, rows, results)
-        at_a_start(program, copy_of(file, folder, "filled"), day, len(rows), plain, results)
+        at_a_start(program, copy_of(file, folder, "filled"), folder, day, len(rows), results)
 
 
 def by_command(program: list[str], file: str, folder: str, day: Day, rows: list[Row], plain: Picture, results: Results) -> None:
@@ -351,18 +348,19 @@ def cut_off(program: list[str], file: str, folder: str, given: argparse.Namespac
     results.tell(f"20 compactions that are killed, {done} of which were done", "; ".join(faults[:2]) or None)
 
 
-def at_a_start(program: list[str], file: str, day: Day, count: int, plain: Picture, results: Results) -> None:
-    """Tries a start that may compact, and does, since most requests are about steps that are gone."""
-    with Stored(program, file, "--keep", str(KEEP), *peers_of(None)) as server:
+def at_a_start(program: list[str], file: str, folder: str, day: Day, count: int, results: Results) -> None:
+    """Tries a start that may compact, and does, since most requests are about steps that are gone and that watchers heard of."""
+    with hearing() as watchers, Stored(program, file, "--keep", str(KEEP), *peers_of(watchers)) as server:
         client = Client(server.port)
         for number in range(count):
             uid = b"1.4.%d" % number
             if (statuses := [client.create(uid, a_step_of(b"P")), client.cancel(uid)]) != [0, 0]:
                 failed(uid, statuses)
         client.release()
+        await_quiet(watchers)
         await_swept(server)
         time.sleep(1)
-    before = len(rows_of(file))
+    before, plain = len(rows_of(file)), picture_of(program, copy_of(file, folder, "uncompacted"), day)
     picture = picture_of(program, file, day, "--compact")
     results.tell(f"a start that compacts: {picture.rows} requests are left of {before}", None if picture.rows < before / 2 else "it does not")
     told_of = [line for line in picture.log if "compact" in line]

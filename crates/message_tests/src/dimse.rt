@@ -1,6 +1,6 @@
 //! Command sets when memory is short. What they say is tested by the rows of `rows/command_sets.rows`.
 
-use fixtures::rows::{cut, number};
+use fixtures::rows::{check, cut, number};
 use fixtures::{Refusing, bytes_of};
 use std::alloc::Global;
 use std::test::Fail;
@@ -92,7 +92,7 @@ fn is_refused_in_turn(rt: &impl AllocGlobal, row: &str) -> Result<bool, Fail> {
 #[test]
 fn a_refused_growth_is_want_of_memory(rt: HostRuntime) -> Result<(), Fail> {
     for row in COMMANDS.lines() {
-        assert!(rt; is_refused_in_turn(&rt, row)?, "at {row}");
+        check(row, is_refused_in_turn(&rt, row)?)?;
     }
     Ok(())
 }

@@ -1,6 +1,6 @@
 //! The number of connections that wait, from lists of sockets.
 
-use fixtures::rows::cut;
+use fixtures::rows::{check_same, cut};
 use std::net::SocketAddr;
 use std::test::Fail;
 use ups_net::waiting_at;
@@ -49,7 +49,7 @@ fn the_connections_that_wait_at_a_listener_are_counted(rt: HostRuntime) -> Resul
     for row in ROWS.lines() {
         let (address, count) = cut(row, " -> ")?;
         let told = told_of(&rt, address)?;
-        assert_eq!(rt; told.as_str(), count, "{row}");
+        check_same(row, told.as_str(), count)?;
     }
     Ok(())
 }

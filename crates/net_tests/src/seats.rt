@@ -1,5 +1,6 @@
 ghost use Rattle.std.specs.Prelude.{◌≡◌, All};
 
+use fixtures::rows::check_same;
 use fixtures::{Refusing, a_step, title, uid};
 use std::alloc::{Allocator, Global};
 use std::sync::Wait;
@@ -236,15 +237,22 @@ fn openings_in_turn(alloc: Global) -> Result<String, Fail> {
 fn a_desk_opens_with_memory_and_1_to_1024_seats(rt: HostRuntime) -> Result<(), Fail> {
     let alloc = rt.alloc();
     let told = openings_in_turn(alloc)?;
-    assert_eq!(rt; told.as_str(), "Memory Memory Memory Memory Memory opens ");
+    check_same(
+        "seats",
+        told.as_str(),
+        "Memory Memory Memory Memory Memory opens ",
+    )?;
     for (seats, expected) in [
         (0, "BadSeats"),
         (1, "opens"),
         (1024, "opens"),
         (1025, "BadSeats"),
     ] {
-        let told = opening(alloc, with_a_step(alloc)?, seats);
-        assert_eq!(rt; told, expected, "with {seats} seats");
+        check_same(
+            "seats",
+            opening(alloc, with_a_step(alloc)?, seats),
+            expected,
+        )?;
     }
     Ok(())
 }

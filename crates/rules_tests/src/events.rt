@@ -1,6 +1,6 @@
 //! The contents of event reports, encoded in Explicit VR Little Endian.
 
-use fixtures::rows::{behind, cut, cut_twice, number};
+use fixtures::rows::{behind, check, cut, cut_twice, number};
 use fixtures::{Refusing, bytes_of, title, uid};
 use std::alloc::{Allocator, Global};
 use std::test::Fail;
@@ -238,7 +238,7 @@ fn is_so(rt: &impl AllocGlobal, heap: &Refusing<Global>, row: &str) -> Result<bo
 fn events_say_what_their_rows_say(rt: HostRuntime) -> Result<(), Fail> {
     let heap = Refusing::new(rt.alloc());
     for row in ROWS.lines() {
-        assert!(rt; row.starts_with("# ") || is_so(&rt, &heap, row)?, "{row}");
+        check(row, row.starts_with("# ") || is_so(&rt, &heap, row)?)?;
     }
     Ok(())
 }

@@ -18,9 +18,6 @@ use ups_journal::Record;
 /// No course makes as many calls.
 const MOST: u32 = 10_000;
 
-/// Each test counts more courses.
-const LEAST: u32 = 0;
-
 /// The number of requests of the history: one for each append.
 const REQUESTS: u64 = 2;
 
@@ -234,82 +231,61 @@ fn singles<R: Clock + Log>(rt: &R, alloc: Global, second: Second) -> Result<Coun
     Ok(counts)
 }
 
+/// Fails unless there were courses, and each was right.
+fn expect_all_right(counts: Counts) -> Result<(), Fail> {
+    let wrong = (counts.unmade, counts.lost, counts.broken);
+    if wrong != (0, 0, 0) || counts.right == 0 {
+        return Err(Fail::new(format_args!("{counts:?}")));
+    }
+    Ok(())
+}
+
 #[test]
 fn a_call_that_does_nothing_breaks_nothing(rt: HostRuntime) -> Result<(), Fail> {
-    let counts = singles(&rt, rt.alloc(), Second::Undone)?;
-    assert_eq!(rt; (counts.unmade, counts.lost, counts.broken), (0, 0, 0));
-    assert!(rt; counts.right > LEAST, "{}", counts.right);
-    Ok(())
+    expect_all_right(singles(&rt, rt.alloc(), Second::Undone)?)
 }
 
 #[test]
 fn a_call_that_does_all_breaks_nothing(rt: HostRuntime) -> Result<(), Fail> {
-    let counts = singles(&rt, rt.alloc(), Second::Done)?;
-    assert_eq!(rt; (counts.unmade, counts.lost, counts.broken), (0, 0, 0));
-    assert!(rt; counts.right > LEAST, "{}", counts.right);
-    Ok(())
+    expect_all_right(singles(&rt, rt.alloc(), Second::Done)?)
 }
 
 #[test]
 fn a_call_without_room_breaks_nothing(rt: HostRuntime) -> Result<(), Fail> {
-    let counts = singles(&rt, rt.alloc(), Second::NoRoom)?;
-    assert_eq!(rt; (counts.unmade, counts.lost, counts.broken), (0, 0, 0));
-    assert!(rt; counts.right > LEAST, "{}", counts.right);
-    Ok(())
+    expect_all_right(singles(&rt, rt.alloc(), Second::NoRoom)?)
 }
 
 #[test]
 fn failures_that_last_break_nothing(rt: HostRuntime) -> Result<(), Fail> {
-    let counts = singles(&rt, rt.alloc(), Second::Lasting)?;
-    assert_eq!(rt; (counts.unmade, counts.lost, counts.broken), (0, 0, 0));
-    assert!(rt; counts.right > LEAST, "{}", counts.right);
-    Ok(())
+    expect_all_right(singles(&rt, rt.alloc(), Second::Lasting)?)
 }
 
 #[test]
 fn two_calls_that_do_nothing_break_nothing(rt: HostRuntime) -> Result<(), Fail> {
-    let counts = pairs(&rt, rt.alloc(), CallEnd::Undone, Second::Undone)?;
-    assert_eq!(rt; (counts.unmade, counts.lost, counts.broken), (0, 0, 0));
-    assert!(rt; counts.right > LEAST, "{}", counts.right);
-    Ok(())
+    expect_all_right(pairs(&rt, rt.alloc(), CallEnd::Undone, Second::Undone)?)
 }
 
 #[test]
 fn nothing_and_then_all_done_breaks_nothing(rt: HostRuntime) -> Result<(), Fail> {
-    let counts = pairs(&rt, rt.alloc(), CallEnd::Undone, Second::Done)?;
-    assert_eq!(rt; (counts.unmade, counts.lost, counts.broken), (0, 0, 0));
-    assert!(rt; counts.right > LEAST, "{}", counts.right);
-    Ok(())
+    expect_all_right(pairs(&rt, rt.alloc(), CallEnd::Undone, Second::Done)?)
 }
 
 #[test]
 fn nothing_done_and_then_failures_that_last_break_nothing(rt: HostRuntime) -> Result<(), Fail> {
-    let counts = pairs(&rt, rt.alloc(), CallEnd::Undone, Second::Lasting)?;
-    assert_eq!(rt; (counts.unmade, counts.lost, counts.broken), (0, 0, 0));
-    assert!(rt; counts.right > LEAST, "{}", counts.right);
-    Ok(())
+    expect_all_right(pairs(&rt, rt.alloc(), CallEnd::Undone, Second::Lasting)?)
 }
 
 #[test]
 fn all_and_then_nothing_done_breaks_nothing(rt: HostRuntime) -> Result<(), Fail> {
-    let counts = pairs(&rt, rt.alloc(), CallEnd::Done, Second::Undone)?;
-    assert_eq!(rt; (counts.unmade, counts.lost, counts.broken), (0, 0, 0));
-    assert!(rt; counts.right > LEAST, "{}", counts.right);
-    Ok(())
+    expect_all_right(pairs(&rt, rt.alloc(), CallEnd::Done, Second::Undone)?)
 }
 
 #[test]
 fn two_calls_that_do_all_break_nothing(rt: HostRuntime) -> Result<(), Fail> {
-    let counts = pairs(&rt, rt.alloc(), CallEnd::Done, Second::Done)?;
-    assert_eq!(rt; (counts.unmade, counts.lost, counts.broken), (0, 0, 0));
-    assert!(rt; counts.right > LEAST, "{}", counts.right);
-    Ok(())
+    expect_all_right(pairs(&rt, rt.alloc(), CallEnd::Done, Second::Done)?)
 }
 
 #[test]
 fn all_done_and_then_failures_that_last_break_nothing(rt: HostRuntime) -> Result<(), Fail> {
-    let counts = pairs(&rt, rt.alloc(), CallEnd::Done, Second::Lasting)?;
-    assert_eq!(rt; (counts.unmade, counts.lost, counts.broken), (0, 0, 0));
-    assert!(rt; counts.right > LEAST, "{}", counts.right);
-    Ok(())
+    expect_all_right(pairs(&rt, rt.alloc(), CallEnd::Done, Second::Lasting)?)
 }

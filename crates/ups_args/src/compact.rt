@@ -17,7 +17,7 @@ use std::alloc::{AllocError, Global};
 /// Returns the command line of `upsd compact`.
 pub(crate) fn compact_command<'a>(alloc: Global) -> Result<Command<'a>, AllocError> {
     let command = Command::new(alloc, "compact")
-        .about("takes out of a store what is about steps that are no longer held")
+        .about("takes out of a store what is about removed steps of which no report waits")
         .arg(leave_out_flag(alloc))?
         .arg(other_settings_flag(alloc))?;
     let keep =

@@ -17,11 +17,6 @@ use Rattle.ups_compact.proofs.Watching.{watch_left, due_left}
 use Rattle.ups_compact.proofs.Covering.{cover_left}
 use Rattle.ups_compact.proofs.Staying.{held_case, among_left}
 
--- a sweep is not left
-no_sweep_left : {A : Type 0} (s : Settings) (steps : List (List ℕ)) (es : List (Entry A)) (m : ℕ) (r : Request A) → sweeps_some s steps es m r ≡ true → is_left steps r ≡ false
-no_sweep_left s steps es m Sweep h = refl
-no_sweep_left s steps es m r h = absurd cc
-
 -- without its sweeps it is what is left
 pub left_of_kept : {A : Type 0} (s : Settings) (steps : List (List ℕ)) (es : List (Entry A)) → left steps (left_for s steps es) ≡ left steps es
 left_of_kept s steps [] = refl

@@ -1,4 +1,4 @@
-mod Accepting
+pub mod Accepting
 mod Acked
 pub mod Alike
 mod Answered
@@ -6,18 +6,18 @@ mod Claimed
 mod Counting
 mod Covering
 mod Holding
-mod Kept
+pub mod Kept
 mod KeptRoom
-mod KeptTold
+pub mod KeptTold
 mod Known
-mod Needed
+pub mod Needed
 mod Off
 pub mod Ordered
 mod Outside
 mod Pending
 mod Room
 mod Shifted
-mod Shifts
+pub mod Shifts
 pub mod Standing
 mod Staying
 mod Telling

@@ -1,5 +1,5 @@
 -- A history compacted for steps that lose nothing stands for the history up to a shift of the numbers of events.
-use Rattle.std.proofs.Common.{◌≡◌, ℕ, zero, suc, ◌+◌, ◌≤◌, Bool, true, false, ◌||◌, ◌&&◌, cond, List, [], ◌∷◌, ◌++◌, length, map, take, drop, None, Some, refl, sym, ap, subst, ◌∙◌, arith, length-append}
+use Rattle.std.proofs.Common.{◌≡◌, ℕ, zero, suc, ◌+◌, ◌-◌, ◌≤◌, Bool, true, false, ◌||◌, ◌&&◌, cond, List, [], ◌∷◌, ◌++◌, length, map, take, drop, None, Some, refl, sym, ap, subst, ◌∙◌, arith, length-append}
 use Rattle.std.specs.Prelude.{nat_lt}
 use Rattle.std.specs.List.{AllByRecursion, list_any}
 use Rattle.std.specs.Option.{unwrap_or}
@@ -189,11 +189,12 @@ fewer_of steps (x ∷ xs) = at (is_among x.step steps) (fewer_of steps xs)
     at true h = omega (arith, h)
     at false h = omega (arith, h)
 
--- THE SHIFT of a compaction
-module _ {A : Type 0} (caller moment : ℕ) (s : Settings) (steps : List (List ℕ)) (es : List (Entry A)) (l : legal s es ≡ true) (once : has_title_twice s.peers ≡ false) (lose : LosesNothing s steps es) (w : List ℕ) where
-  abbrev known : List Report
-  known = told_of_steps steps (take (acked es w) (told_to s es w))
+-- the reports of these steps among those that w has acknowledged
+abbrev known : {A : Type 0} → Settings → List (List ℕ) → List (Entry A) → List ℕ → List Report
+known s steps es w = told_of_steps steps (take (acked es w) (told_to s es w))
 
+-- WHAT IS TO BE ACKNOWLEDGED behind what is kept
+module _ {A : Type 0} (s : Settings) (steps : List (List ℕ)) (es : List (Entry A)) (l : legal s es ≡ true) (lose : LosesNothing s steps es) (w : List ℕ) where
   still_among : AreAmong steps (unacked s es w)
   still_among = at (is_peer s.peers w) refl
     where
@@ -201,16 +202,37 @@ module _ {A : Type 0} (caller moment : ℕ) (s : Settings) (steps : List (List �
       at true peer = all_among_latest steps (unacked s es w) (subst (AreAmong steps) (to_tell_is s es w) (reports_among steps (pending s es w) (lose.keeps_pending w peer)))
       at false out = subst (AreAmong steps) (sym (none_behind (acked es w) (told_to s es w) (ap (map reported) (no_events s w out es l)))) tt
 
-  number_is : acked_of_steps s steps es w ≡ length known
+  number_is : acked_of_steps s steps es w ≡ length (known s steps es w)
   number_is = sym (same_count steps (take (acked es w) (events s es w))) ∙ ap (λ (xs : List Report). length (told_of_steps steps xs)) (sym (take-map reported (acked es w) (events s es w)))
 
-  told_is : told_to s (compacted_for caller moment s steps es) w ≡ known ++ unacked s es w
-  told_is =
-      ap (map reported) (events_acks caller moment (upto_for s steps es) s.peers (left_for s steps es) s w)
-      ∙ told_kept s steps es w
+  left_told : told_to s (left_for s steps es) w ≡ known s steps es w ++ unacked s es w
+  left_told =
+      told_kept s steps es w
       ∙ ap (told_of_steps steps) (sym (both_ends (acked es w) (told_to s es w)))
       ∙ filter-append (λ (x : Report). is_among x.step steps) (take (acked es w) (told_to s es w)) (unacked s es w)
-      ∙ ap (λ (xs : List Report). known ++ xs) (all_stay steps (unacked s es w) still_among)
+      ∙ ap (λ (xs : List Report). known s steps es w ++ xs) (all_stay steps (unacked s es w) still_among)
+
+  left_events : length (events s (left_for s steps es) w) ≡ length (known s steps es w) + length (unacked s es w)
+  left_events =
+      sym (length-map (events s (left_for s steps es) w) reported)
+      ∙ ap length left_told
+      ∙ length-append (known s steps es w) (unacked s es w)
+
+  events_all : length (events s es w) ≡ acked es w + length (unacked s es w)
+  events_all =
+      sym (length-map (events s es w) reported)
+      ∙ ap length (sym (both_ends (acked es w) (told_to s es w)))
+      ∙ length-append (take (acked es w) (told_to s es w)) (unacked s es w)
+      ∙ ap (λ (n : ℕ). n + length (unacked s es w)) (take_length (acked es w) (told_to s es w) (subst (λ (n : ℕ). acked es w ≤ n) (sym (length-map (events s es w) reported)) (acked_made s es w l)))
+
+  -- all events of what is kept, but as many as were not acknowledged
+  pub number_behind : acked_of_steps s steps es w ≡ length (events s (left_for s steps es) w) - (length (events s es w) - acked es w)
+  number_behind = let a = left_events in let b = events_all in let n = number_is in omega (arith, a, b, n)
+
+-- THE SHIFT of a compaction
+module _ {A : Type 0} (caller moment : ℕ) (s : Settings) (steps : List (List ℕ)) (es : List (Entry A)) (l : legal s es ≡ true) (once : has_title_twice s.peers ≡ false) (lose : LosesNothing s steps es) (w : List ℕ) where
+  told_is : told_to s (compacted_for caller moment s steps es) w ≡ known s steps es w ++ unacked s es w
+  told_is = ap (map reported) (events_acks caller moment (upto_for s steps es) s.peers (left_for s steps es) s w) ∙ left_told s steps es l lose w
 
   acked_is : acked (compacted_for caller moment s steps es) w ≡ acked_of_steps s steps es w
   acked_is = at (is_peer s.peers w) refl
@@ -227,33 +249,23 @@ module _ {A : Type 0} (caller moment : ℕ) (s : Settings) (steps : List (List �
 
   pub unacked_is : unacked s (compacted_for caller moment s steps es) w ≡ unacked s es w
   unacked_is =
-      ap (λ (k : ℕ). drop k (told_to s (compacted_for caller moment s steps es) w)) (acked_is ∙ number_is)
-      ∙ ap (drop (length known)) told_is
-      ∙ drop_front known (unacked s es w)
+      ap (λ (k : ℕ). drop k (told_to s (compacted_for caller moment s steps es) w)) (acked_is ∙ number_is s steps es l lose w)
+      ∙ ap (drop (length (known s steps es w))) told_is
+      ∙ drop_front (known s steps es w) (unacked s es w)
 
-  events_more : length (events s (compacted_for caller moment s steps es) w) ≡ length known + length (unacked s es w)
-  events_more =
-      sym (length-map (events s (compacted_for caller moment s steps es) w) reported)
-      ∙ ap length told_is
-      ∙ length-append known (unacked s es w)
+  events_more : length (events s (compacted_for caller moment s steps es) w) ≡ length (known s steps es w) + length (unacked s es w)
+  events_more = ap length (events_acks caller moment (upto_for s steps es) s.peers (left_for s steps es) s w) ∙ left_events s steps es l lose w
 
-  events_all : length (events s es w) ≡ acked es w + length (unacked s es w)
-  events_all =
-      sym (length-map (events s es w) reported)
-      ∙ ap length (sym (both_ends (acked es w) (told_to s es w)))
-      ∙ length-append (take (acked es w) (told_to s es w)) (unacked s es w)
-      ∙ ap (λ (n : ℕ). n + length (unacked s es w)) (take_length (acked es w) (told_to s es w) (subst (λ (n : ℕ). acked es w ≤ n) (sym (length-map (events s es w) reported)) (acked_made s es w l)))
-
-  known_few : length known ≤ acked es w
+  known_few : length (known s steps es w) ≤ acked es w
   known_few =
       let few = fewer_of steps (take (acked es w) (told_to s es w)) in
       let long = take_length (acked es w) (told_to s es w) (subst (λ (n : ℕ). acked es w ≤ n) (sym (length-map (events s es w) reported)) (acked_made s es w l)) in
       omega (arith, few, long)
 
   pub events_fewer : length (events s (compacted_for caller moment s steps es) w) ≤ length (events s es w)
-  events_fewer = let a = events_more in let b = events_all in let c = known_few in omega (arith, a, b, c)
+  events_fewer = let a = events_more in let b = events_all s steps es l lose w in let c = known_few in omega (arith, a, b, c)
 
   pub acked_shift : acked (compacted_for caller moment s steps es) w + shift s (compacted_for caller moment s steps es) es w ≡ acked es w
   acked_shift =
-      let a = events_more in let b = events_all in let c = known_few in let n = acked_is ∙ number_is in
+      let a = events_more in let b = events_all s steps es l lose w in let c = known_few in let n = acked_is ∙ number_is s steps es l lose w in
       omega (arith, a, b, c, n)

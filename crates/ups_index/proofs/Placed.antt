@@ -93,18 +93,28 @@ HasPlaces posts places = (number place : ℕ) → Contains posts (post number pl
 abbrev pub KeepsPlaces : List ℕ → List ℕ → Type 0
 KeepsPlaces old new = (place : ℕ) → Contains old place → Contains new place
 
-pub places_more : (posts : List Post) (i : ℕ) (p : Post) (old new : List ℕ) → i < length posts → p ≡ get_or posts i p → HasPlaces (take i posts) old → KeepsPlaces old new → Contains new p.place → HasPlaces (take (i + 1) posts) new
-places_more posts i p old new l is has keeps this number place h =
+-- the places of those posts whose numbers are in a range
+abbrev pub HasPlacesWithin : ℕ → ℕ → List Post → List ℕ → Type 0
+HasPlacesWithin low high posts places = (number place : ℕ) → Contains posts (post number place) → low ≤ number → number ≤ high → Contains places place
+
+-- the post, if its number is in a range, has its place
+abbrev pub HasPlaceWithin : ℕ → ℕ → Post → List ℕ → Type 0
+HasPlaceWithin low high p places = low ≤ p.number → p.number ≤ high → Contains places p.place
+
+pub places_more : (low high : ℕ) (posts : List Post) (i : ℕ) (p : Post) (old new : List ℕ) → i < length posts → p ≡ get_or posts i p → HasPlacesWithin low high (take i posts) old → KeepsPlaces old new → HasPlaceWithin low high p new
+    → HasPlacesWithin low high (take (i + 1) posts) new
+places_more low high posts i p old new l is has keeps this number place h from upto =
     elim (Contains-push_cases (take i posts) p (post number place) (subst (λ (t : List Post). Contains t (post number place)) (take_more posts i p l ∙ ap (λ (q : Post). take i posts ++ q ∷ []) (sym is)) h)) [
-      | inl a ↦ keeps place (has number place a)
-      | inr e ↦ subst (λ (k : ℕ). Contains new k) (ap (λ (q : Post). q.place) e) this
+      | inl a ↦ keeps place (has number place a from upto)
+      | inr e ↦ subst (λ (q : Post). HasPlaceWithin low high q new) e this from upto
     ]
 
-pub places_read : (posts : List Post) (i : ℕ) (old new : List ℕ) → i < length posts → HasPlaces (take i posts) old → KeepsPlaces old new → Contains new (get_or posts i (post 0 0)).place → HasPlaces (take (i + 1) posts) new
-places_read posts i old new l has keeps this = places_more posts i (get_or posts i (post 0 0)) old new l (get_or_default posts i (post 0 0) (get_or posts i (post 0 0)) l) has keeps this
+pub places_read : (low high : ℕ) (posts : List Post) (i : ℕ) (old new : List ℕ) → i < length posts → HasPlacesWithin low high (take i posts) old → KeepsPlaces old new → HasPlaceWithin low high (get_or posts i (post 0 0)) new
+    → HasPlacesWithin low high (take (i + 1) posts) new
+places_read low high posts i old new l has keeps this = places_more low high posts i (get_or posts i (post 0 0)) old new l (get_or_default posts i (post 0 0) (get_or posts i (post 0 0)) l) has keeps this
 
-pub places_all : (posts : List Post) (i : ℕ) (places : List ℕ) → length posts ≤ i → HasPlaces (take i posts) places → HasPlaces posts places
-places_all posts i places l h = subst (λ (t : List Post). HasPlaces t places) (take_all i posts l) h
+pub places_all : (low high : ℕ) (posts : List Post) (i : ℕ) (places : List ℕ) → length posts ≤ i → HasPlacesWithin low high (take i posts) places → HasPlacesWithin low high posts places
+places_all low high posts i places l h = subst (λ (t : List Post). HasPlacesWithin low high t places) (take_all i posts l) h
 
 -- a place more
 pub place_more : (old new : List ℕ) (place : ℕ) → new ≡ old ++ place ∷ [] → KeepsPlaces old new × Contains new place

@@ -157,18 +157,39 @@ pub(crate) fn take_start<A: Allocator + Copy>(table: &mut Posts<A>, start: Optio
     }
 }
 
-/// Adds the places of posts.
+/// Adds the place of a post, if its number is from `low` to `high`.
+///
+/// Errors: if memory runs out.
+fn add_place<A: Allocator + Copy>(
+    places: &mut Vec<u32, A>,
+    post: Post,
+    low: u64,
+    high: u64,
+) -> Result<(), AllocError>
+    ensures has { OnOk result (low ≤ post.number → post.number ≤ high → Contains places.new.items post.place) }
+    ensures keeps { OnOk result ((place : ℕ) → Contains places.old.items place → Contains places.new.items place) }
+{
+    if post.number < low || high < post.number {
+        return Ok(());
+    }
+    places.push(post.place)?;
+    Ok(())
+}
+
+/// Adds the places of those posts whose numbers are from `low` to `high`.
 ///
 /// Errors: if memory runs out.
 fn add_places<A: Allocator + Copy>(
     places: &mut Vec<u32, A>,
     posts: &[Post],
+    low: u64,
+    high: u64,
 ) -> Result<(), AllocError>
-    ensures has { OnOk result ((number place : ℕ) → Contains posts.now (post number place) → Contains places.new.items place) }
+    ensures has { OnOk result ((number place : ℕ) → Contains posts.now (post number place) → low ≤ number → number ≤ high → Contains places.new.items place) }
     ensures keeps { OnOk result ((place : ℕ) → Contains places.old.items place → Contains places.new.items place) }
 {
     for post in posts {
-        places.push(post.place)?;
+        add_place(places, *post, low, high)?;
     }
     Ok(())
 }
@@ -189,7 +210,7 @@ fn add_run<A: Allocator + Copy>(
     Ok(())
 }
 
-/// Returns, in order, the places of the numbers from `low` to `high`, and those of all posts that wait.
+/// Returns, in order, the places of the numbers from `low` to `high`.
 ///
 /// Errors: if memory runs out.
 fn places_of<A: Allocator + Copy>(
@@ -207,7 +228,7 @@ fn places_of<A: Allocator + Copy>(
     let (run, waiting) = table.runs(low, high);
     let mut places = Vec::with_capacity(alloc, USUAL_PLACES)?;
     add_run(&mut places, run)?;
-    add_places(&mut places, waiting)?;
+    add_places(&mut places, waiting, low, high)?;
     places.sort_unstable();
     Ok(places)
 }

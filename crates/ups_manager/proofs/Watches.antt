@@ -12,7 +12,7 @@ use Rattle.ups_life.specs.Watching.{watched_step, watched}
 use Rattle.ups_life.specs.Events.{events, view, present, pending}
 use Rattle.ups_life.proofs.Viewing.{watched_views}
 use Rattle.ups_events.specs.Telling.{Line, empty_line}
-use Rattle.ups_tables.specs.Live.{IsLive, final, locked}
+use Rattle.ups_tables.specs.Live.{IsLive, final, locked, queue}
 use Rattle.ups_tables.proofs.Asking.{watched_by}
 use Rattle.ups_tables.specs.declared.tables.Tables.{Tables}
 use Rattle.ups_tables.specs.Fit.{how, queue_line, uses}
@@ -46,8 +46,13 @@ pub views_if_ok : {A E : Type 0} (s : Settings) (es : List (Entry A)) (w : List 
 views_if_ok s es w (Ok v) is = views_are s es w v.items is
 views_if_ok s es w (Err e) is = is
 
+-- the queue of a watcher is the one that the definitions compute
+pub queue_is : {A : Type 0} (s : Settings) (history : List (Entry A)) (t : Tables A) (peers : List Peer) (place : Option ℕ) (w : List ℕ) → Stands s history t → peers ≡ s.peers → place ≡ place_of_title peers w
+    → by_place empty_line (λ p. queue_line t p) place ≡ queue s (past history) w
+queue_is s history t peers place w st named at =
+    ap (λ (o : Option ℕ). by_place empty_line (λ p. queue_line t p) o) (at ∙ ap (λ (ps : List Peer). place_of_title ps w) named) ∙ st.lives.queues w
+
 -- what is pending
 pub pending_is : {A : Type 0} (s : Settings) (history : List (Entry A)) (t : Tables A) (peers : List Peer) (place : Option ℕ) (w : List ℕ) → Stands s history t → peers ≡ s.peers → place ≡ place_of_title peers w
     → (by_place empty_line (λ p. queue_line t p) place).events ≡ pending s (past history) w
-pending_is s history t peers place w st named at =
-    ap (λ (o : Option ℕ). (by_place empty_line (λ p. queue_line t p) o).events) (at ∙ ap (λ (ps : List Peer). place_of_title ps w) named) ∙ ap (λ (k : Line). k.events) (st.lives.queues w)
+pending_is s history t peers place w st named at = ap (λ (k : Line). k.events) (queue_is s history t peers place w st named at)

@@ -65,7 +65,7 @@ impl<A: Allocator + Copy> Drop for Decision<A> {
 impl<A: Allocator + Copy> Decision<A> {
     /// Carries out the decision about a call, for which there is room: enters the call into the history, the tables and
     /// the index. Returns the reply to it.
-    pub(crate) fn carry_out(
+    pub(crate) fn apply(
         self,
         configuration: &Configuration<A>,
         history: &mut History<A>,

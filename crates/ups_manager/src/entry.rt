@@ -84,5 +84,5 @@ pub(crate) fn enter<A: Allocator + Copy>(
         &call,
         &decision,
     )?;
-    Ok(decision.carry_out(configuration, history, tables, index, call))
+    Ok(decision.apply(configuration, history, tables, index, call))
 }

@@ -13,7 +13,7 @@ ghost use Rattle.ups_life.specs.Settings.{IsMoment, IsOffset};
 ghost use Rattle.ups_life.specs.Steps.{past};
 ghost use Rattle.ups_life.specs.declared.watching.Watched.{Watched};
 ghost use Rattle.ups_life.specs.Watching.{held, watched};
-ghost use Rattle.ups_life.specs.Events.{events, pending, view, present};
+ghost use Rattle.ups_life.specs.Events.{acked, events, pending, view, present};
 ghost use Rattle.ups_life.specs.History.{got};
 ghost use Rattle.ups_life.specs.Worklist.{worklist};
 ghost use Rattle.ups_settings.specs.declared.fault.ManagerFault.TheVariants.{Memory};
@@ -27,7 +27,7 @@ ghost use Rattle.ups_service.specs.Reporting.{reports_to};
 
 use crate::answering::answer_call;
 use crate::memory;
-use crate::peers::{first_pending, waiting_at, watched_in};
+use crate::peers::{acked_at, first_pending, made_at, waiting_at, watched_in};
 use crate::reporting::reports_of;
 use crate::reserve::Reserve;
 use crate::rows::{find, uids_of};
@@ -361,6 +361,24 @@ impl<A: Allocator + Copy> Manager<A> {
     {
         let place = place_of(self.configuration.peers(), ae);
         waiting_at(&self.tables, place)
+    }
+
+    /// Returns the number of events that were made for a watcher (PS3.4 CC.2.4), those that it has acknowledged and
+    /// those that are superseded too; 0 for an application entity that is no peer. It takes no memory.
+    pub fn events_made(&self, ae: Ae) -> u64
+        ensures { result ≡ length (events self.now.settings (past self.now.history) ae) }
+    {
+        let place = place_of(self.configuration.peers(), ae);
+        made_at(&self.tables, place)
+    }
+
+    /// Returns the number of the last event that a watcher has acknowledged, or 0 if it has acknowledged none. It takes
+    /// no memory.
+    pub fn events_acknowledged(&self, ae: Ae) -> u64
+        ensures { result ≡ acked (past self.now.history) ae }
+    {
+        let place = place_of(self.configuration.peers(), ae);
+        acked_at(&self.tables, place)
     }
 
     /// Returns the holder of a step: the caller that has claimed it, and its application entity (PS3.4 CC.1.1), or None

@@ -89,7 +89,7 @@ fn repeats<A: Allocator + Copy>(request: &Request<A>, tables: &Tables<A>) -> boo
 /// room (PS3.4 CC.2.1, CC.2.2, CC.2.5, CC.2.6).
 ///
 /// Errors: the status with which it is refused.
-fn decide<A: Allocator + Copy>(
+fn check_allowed<A: Allocator + Copy>(
     row: Option<&Row<A>>,
     history: &History<A>,
     request: &Request<A>,
@@ -191,7 +191,7 @@ pub(crate) fn step_for<A: Allocator + Copy>(
 {
     let held = find(tables, step);
     let row = row_of(held);
-    decide(row, history, &call.request, tables)?;
+    check_allowed(row, history, &call.request, tables)?;
     let row = row_for(alloc, row, &call.request, call.moment, offset)?;
     let holder = holder_after(held, call);
     Ok(HeldRow { row, holder })

@@ -1,8 +1,10 @@
 mod Acks
 mod Going
 mod Groups
+mod Keeping
 mod Leftover
 mod Legally
+mod Needing
 mod Pending
 mod Runs
 mod Taking

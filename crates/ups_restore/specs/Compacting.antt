@@ -1,21 +1,31 @@
 -- How a manager takes over the compacted history of another. Histories here are as they are shown, oldest entry first.
-use Rattle.std.specs.Prelude.{◌≡◌, ℕ, List, [], ◌∷◌, ◌++◌, length, map, take, Option, None, Some}
+use Rattle.std.specs.Prelude.{◌≡◌, ℕ, ◌-◌, Bool, true, false, List, [], ◌∷◌, ◌++◌, length, map, take, Option, None, Some}
 use Rattle.ups_life.specs.declared.entry.Entry.{Entry}
 use Rattle.ups_life.specs.declared.peer.Peer.{Peer}
-use Rattle.ups_life.specs.declared.request.Request.TheVariants.{Ack}
+use Rattle.ups_life.specs.declared.request.Request.{Request}
+use Rattle.ups_life.specs.declared.request.Request.TheVariants.{Ack, Sweep}
 use Rattle.ups_life.specs.Settings.{Settings}
 use Rattle.ups_life.specs.Steps.{past}
-use Rattle.ups_life.specs.Events.{pending}
+use Rattle.ups_life.specs.Events.{events, acked}
 use Rattle.ups_journal.specs.declared.record.Record.{Record}
 use Rattle.ups_journal.specs.Columns.{recorded}
-use Rattle.ups_compact.specs.Compacting.{of_steps, known_up_to}
+use Rattle.ups_compact.specs.Compacting.{above_zero}
 use Rattle.ups_restore.specs.declared.fault.CompactFault.{CompactFault}
 use Rattle.ups_restore.specs.declared.fault.CompactFault.TheVariants as faults
 use Rattle.ups_restore.specs.Replaying.{IsWant}
 
--- the number that w is to acknowledge after the history `after`, which replaces the history `before`; `steps` were held there
-abbrev pub known_behind : {A : Type 0} → Settings → List (List ℕ) → List (Entry A) → List (Entry A) → List ℕ → Option ℕ
-known_behind s steps before after w = known_up_to (length (of_steps steps (pending s (past before) w))) (pending s (past after) w)
+abbrev pub is_sweep : {A : Type 0} → Request A → Bool
+is_sweep Sweep = true
+is_sweep request = false
+
+-- how many events w has not acknowledged, superseded ones too
+abbrev pub unacknowledged : {A : Type 0} → Settings → List (Entry A) → List ℕ → ℕ
+unacknowledged s history w = length (events s (past history) w) - acked (past history) w
+
+-- the number that w is to acknowledge after the history `after`, which replaces the history `before`: after it as many of its events
+-- as before are not acknowledged
+abbrev pub known_behind : {A : Type 0} → Settings → List (Entry A) → List (Entry A) → List ℕ → Option ℕ
+known_behind s before after w = above_zero (length (events s (past after) w) - unacknowledged s before w)
 
 -- the acknowledgement by w up to a number, if there is one
 abbrev pub ack_of : {A : Type 0} → ℕ → ℕ → List ℕ → Option ℕ → List (Entry A)

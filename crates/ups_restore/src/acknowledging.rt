@@ -1,69 +1,34 @@
 //! The acknowledgements of watchers that follow a compact history.
 
-ghost use Rattle.std.specs.Prelude.{◌≡◌, ◌<◌, ◌++◌, length, IfOk, IfErr, OnOk};
-ghost use Rattle.ups_life.specs.Events.{pending};
+ghost use Rattle.std.specs.Prelude.{◌≡◌, ◌++◌, IfOk, IfErr, OnOk};
 ghost use Rattle.ups_life.specs.Settings.{IsMoment};
 ghost use Rattle.ups_life.specs.Steps.{past};
 ghost use Rattle.ups_service.specs.Law.{is_legal};
-ghost use Rattle.ups_life.specs.Watching.{held};
-ghost use Rattle.ups_compact.specs.Compacting.{compacted, events_of, left};
+ghost use Rattle.ups_compact.specs.Compacting.{compacted_for, left_for, steps_needed};
 ghost use Rattle.ups_restore.specs.declared.fault.CompactFault.TheVariants.{Memory};
 ghost use Rattle.ups_restore.specs.Compacting.{known_behind, ack_of, acks, IsNoRefusal};
 
 use crate::fault::{CompactFault, RestoreRefusal};
 use crate::replaying::replay;
 use std::alloc::{AllocError, Global};
-use ups_compact::{KeptSteps, reports_known_up_to};
-use ups_life::{Entry, EventReport, EventReports, Reply, Request};
+use ups_life::{Entry, Request};
 use ups_manager::Manager;
 use ups_pdu::Ae;
 
 /// The caller of the acknowledgements that follow a compact history. No pass to a service has this number.
 pub const COMPACTOR: u32 = 0;
 
-/// Returns the number of reports, which is less than `u64::MAX`, since each takes memory.
-fn count_of(reports: &[EventReport<Global>]) -> usize
-    ensures count { result ≡ length reports.now }
-    ensures few { result < u64.MAX }
-{
-    reports.len()
-}
-
-/// Returns the reports of all events that are pending for a peer.
-///
-/// Errors: if memory runs out.
-fn pending_of(manager: &Manager<Global>, ae: Ae) -> Result<EventReports<Global>, CompactFault>
-    ensures events { IfOk result (λ reports. events_of reports ≡ pending manager.now.settings (past manager.now.history) ae) }
-    ensures only { IfErr result (λ fault. fault ≡ Memory) }
-{
-    match manager.pending(ae, u64::MAX) {
-        Reply::Reports(reports) => {
-            // There are fewer than were asked for, so these are all.
-            let _count = count_of(reports.as_slice());
-            Ok(reports)
-        }
-        _ => Err(CompactFault::Memory),
-    }
-}
-
-/// Returns the number up to which a peer knows the events pending in a fresh manager, or None if it knows none of them.
-/// `steps` are those that were held in `manager`.
-///
-/// Errors: if memory runs out.
-fn known_by(
-    manager: &Manager<Global>,
-    fresh: &Manager<Global>,
-    steps: &KeptSteps<Global>,
-    ae: Ae,
-) -> Result<Option<u64>, CompactFault>
+/// Returns the number up to which a peer knows the events of a fresh manager, or None if it knows none of them: all but as
+/// many as it has not acknowledged in `manager`. It takes no memory.
+fn known_by(manager: &Manager<Global>, fresh: &Manager<Global>, ae: Ae) -> Option<u64>
     requires settings { fresh.now.settings ≡ manager.now.settings }
-    ensures number { IfOk result (λ number. number ≡ known_behind manager.now.settings steps.now manager.now.history fresh.now.history ae) }
-    ensures only { IfErr result (λ fault. fault ≡ Memory) }
+    ensures { result ≡ known_behind manager.now.settings manager.now.history fresh.now.history ae }
 {
-    let before = pending_of(manager, ae)?;
-    let untold = steps.count_reports(before.as_slice());
-    let after = pending_of(fresh, ae)?;
-    Ok(reports_known_up_to(untold, after.as_slice()))
+    let unacknowledged = manager
+        .events_made(ae)
+        .saturating_sub(manager.events_acknowledged(ae));
+    let number = fresh.events_made(ae).saturating_sub(unacknowledged);
+    if number > 0 { Some(number) } else { None }
 }
 
 /// Adds the acknowledgement of a peer up to a number, if there is one.
@@ -88,33 +53,31 @@ fn add_known(
     Ok(())
 }
 
-/// Returns the acknowledgements of the peers that know some of the events pending in a fresh manager. `steps` are those
-/// that were held in `manager`.
+/// Returns the acknowledgements of the peers that know some of the events of a fresh manager.
 ///
 /// Errors: if memory runs out.
 fn acknowledgements(
     alloc: Global,
     manager: &Manager<Global>,
     fresh: &Manager<Global>,
-    steps: &KeptSteps<Global>,
     moment: u64,
 ) -> Result<Vec<Entry<Global>, Global>, CompactFault>
     requires settings { fresh.now.settings ≡ manager.now.settings }
-    ensures entries { IfOk result (λ v. v.items ≡ acks COMPACTOR moment (known_behind manager.now.settings steps.now manager.now.history fresh.now.history) manager.now.settings.peers) }
+    ensures entries { IfOk result (λ v. v.items ≡ acks COMPACTOR moment (known_behind manager.now.settings manager.now.history fresh.now.history) manager.now.settings.peers) }
     ensures only { IfErr result (λ fault. fault ≡ Memory) }
 {
     let peers = manager.peers();
     let mut entries = Vec::new(alloc);
     for peer in peers {
-        let number = known_by(manager, fresh, steps, peer.ae)?;
+        let number = known_by(manager, fresh, peer.ae);
         add_known(&mut entries, moment, peer.ae, number)?;
     }
     Ok(entries)
 }
 
-/// Enters into a fresh manager the acknowledgements of the peers that know some of the events pending in it, made at
-/// `moment` by [`COMPACTOR`]. `steps` are those that are held in `manager`. If the fresh manager has the entries of the
-/// other that stay for these, it then has its compacted history.
+/// Enters into a fresh manager the acknowledgements of the peers that know some of its events, made at `moment` by
+/// [`COMPACTOR`]: each watcher has then as many events before it as in the other manager. If the fresh manager has the
+/// entries of the other that are kept for the steps needed, it then has its compacted history.
 ///
 /// # Errors
 ///
@@ -123,19 +86,19 @@ pub fn acknowledge(
     alloc: Global,
     manager: &Manager<Global>,
     fresh: &mut Manager<Global>,
-    steps: &KeptSteps<Global>,
     moment: u64,
 ) -> Result<(), CompactFault>
     requires moment { IsMoment moment }
     requires settings { fresh.old.settings ≡ manager.now.settings }
-    ensures entered { OnOk result (fresh.new.history ≡ fresh.old.history ++ acks COMPACTOR moment (known_behind manager.now.settings steps.now manager.now.history fresh.old.history) manager.now.settings.peers) }
-    ensures compacted { OnOk result (steps.now ≡ held manager.now.settings (past manager.now.history) → fresh.old.history ≡ left steps.now manager.now.history → past fresh.new.history ≡ compacted COMPACTOR moment manager.now.settings (past manager.now.history)) }
-    ensures only { is_legal fresh.old.settings (fresh.old.history ++ acks COMPACTOR moment (known_behind manager.now.settings steps.now manager.now.history fresh.old.history) manager.now.settings.peers) → IfErr result IsNoRefusal }
+    ensures entered { OnOk result (fresh.new.history ≡ fresh.old.history ++ acks COMPACTOR moment (known_behind manager.now.settings manager.now.history fresh.old.history) manager.now.settings.peers) }
+    ensures compacted { OnOk result (past fresh.old.history ≡ left_for manager.now.settings (steps_needed manager.now.settings (past manager.now.history)) (past manager.now.history) → past fresh.new.history ≡ compacted_for COMPACTOR moment manager.now.settings (steps_needed manager.now.settings (past manager.now.history)) (past manager.now.history)) }
+    ensures only { is_legal fresh.old.settings (fresh.old.history ++ acks COMPACTOR moment (known_behind manager.now.settings manager.now.history fresh.old.history) manager.now.settings.peers) → IfErr result IsNoRefusal }
     ensures settings { fresh.new.settings ≡ fresh.old.settings }
     ensures legal { is_legal fresh.new.settings fresh.new.history }
 {
+    let _count = manager.entries();
     let _history = fresh.history();
-    let entries = acknowledgements(alloc, manager, fresh, steps, moment)?;
+    let entries = acknowledgements(alloc, manager, fresh, moment)?;
     match replay(fresh, entries) {
         Ok(()) => Ok(()),
         Err(fault) => Err(CompactFault::Entering(RestoreRefusal::Entry(fault.refusal))),

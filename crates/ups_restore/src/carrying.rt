@@ -1,42 +1,104 @@
-//! Entering those records of a history that stay in a compact one.
+//! Entering those entries of a history that are kept in a compacted one.
 
-ghost use Rattle.std.specs.Prelude.{◌≡◌, ◌≤◌, [], ◌∷◌, ◌++◌, length, OnOk};
+ghost use Rattle.std.specs.Prelude.{◌≡◌, ◌≤◌, ◌∷◌, ℕ, List, length, true, MatchResult};
 ghost use Rattle.std.specs.Global.{Global};
 ghost use Rattle.ups_life.specs.declared.entry.Entry.{Entry};
+ghost use Rattle.ups_life.specs.History.{legal};
+ghost use Rattle.ups_life.specs.Settings.{IsMoment};
+ghost use Rattle.ups_life.specs.Steps.{past};
 ghost use Rattle.ups_journal.specs.Columns.{recorded};
 ghost use Rattle.ups_journal.specs.Writable.{IsWritableEntry};
-ghost use Rattle.ups_compact.specs.Compacting.{left};
+ghost use Rattle.ups_service.specs.Law.{is_legal};
+ghost use Rattle.ups_compact.specs.Compacting.{left_for};
+ghost use Rattle.ups_restore.specs.declared.fault.Refusal.TheVariants.{NoRoom};
+ghost use Rattle.ups_restore.specs.Compacting.{is_sweep, IsNoRefusal};
 
-use crate::fault::{CompactFault, RestoreRefusal};
+use crate::fault::{CompactFault, Refusal, RestoreRefusal};
 use crate::replaying::replay_one;
 use std::alloc::Global;
 use ups_compact::KeptSteps;
 use ups_journal::{Record, entry_of};
+use ups_life::{Entry, Request};
 use ups_manager::Manager;
 
-/// Enters the entry of a record, after those in the manager, if it stays in a compact history of these steps.
+/// Returns whether a request is a sweep.
+pub(crate) fn is_sweep(request: &Request<Global>) -> bool
+    ensures { result ≡ is_sweep request.now }
+{
+    match request {
+        Request::Sweep => true,
+        _ => false,
+    }
+}
+
+/// Enters a sweep, after the entries in the manager, if it removes a step there. Of the steps for which a history is kept
+/// it removes those that it removed in the whole history.
+///
+/// Errors: `BadMoment` or `NoRoom`; the manager then stays the same.
+fn enter_sweep(fresh: &mut Manager<Global>, entry: Entry<Global>) -> Result<(), Refusal>
+    requires sweep { is_sweep entry.request ≡ true }
+    ensures carried { (steps : List (List ℕ)) → (es : List (Entry Global)) → legal fresh.old.settings (entry ∷ es) ≡ true → past fresh.old.history ≡ left_for fresh.old.settings steps es → MatchResult result (λ _. past fresh.new.history ≡ left_for fresh.old.settings steps (entry ∷ es)) (λ refusal. IsMoment entry.moment → refusal ≡ NoRoom) }
+    ensures more { length fresh.old.history ≤ length fresh.new.history }
+    ensures settings { fresh.new.settings ≡ fresh.old.settings }
+    ensures legal { is_legal fresh.new.settings fresh.new.history }
+{
+    match replay_one(fresh, entry) {
+        Ok(()) => Ok(()),
+        Err(Refusal::Refused) => Ok(()),
+        Err(refusal) => Err(refusal),
+    }
+}
+
+/// Enters an entry, after those in the manager, if it is kept for these steps: it is left for them, or is a sweep that
+/// removes one of them.
+///
+/// Errors: `BadMoment`, `Refused` or `NoRoom`; the manager then stays the same.
+fn enter_kept(
+    steps: &KeptSteps<Global>,
+    fresh: &mut Manager<Global>,
+    entry: Entry<Global>,
+) -> Result<(), Refusal>
+    ensures carried { (es : List (Entry Global)) → legal fresh.old.settings (entry ∷ es) ≡ true → past fresh.old.history ≡ left_for fresh.old.settings steps.now es → MatchResult result (λ _. past fresh.new.history ≡ left_for fresh.old.settings steps.now (entry ∷ es)) (λ refusal. IsMoment entry.moment → refusal ≡ NoRoom) }
+    ensures more { length fresh.old.history ≤ length fresh.new.history }
+    ensures settings { fresh.new.settings ≡ fresh.old.settings }
+    ensures legal { is_legal fresh.new.settings fresh.new.history }
+{
+    if is_sweep(&entry.request) {
+        return enter_sweep(fresh, entry);
+    }
+    if steps.is_left(&entry.request) {
+        return replay_one(fresh, entry);
+    }
+    let _history = fresh.history();
+    Ok(())
+}
+
+/// Enters the entry of a record of another history, after those in the manager, if it is kept for these steps: it is left
+/// for them, or is a sweep that removes one of them. The manager has the entries before it that are kept.
 ///
 /// # Errors
 ///
-/// `Entering` if it is not the record of an entry, or its entry is not entered. The manager then stays the same.
+/// `Entering` if it is not the record of an entry, or its entry is not entered. The manager then stays the same. It is only
+/// for want of memory or room if the entry was accepted in the other history, and its moment has a date.
 pub fn carry_record(
     alloc: Global,
     steps: &KeptSteps<Global>,
     fresh: &mut Manager<Global>,
     stored: &Record<Global>,
 ) -> Result<(), CompactFault>
-    ensures carried { (e : Entry Global) → IsWritableEntry e → recorded e ≡ stored.now → OnOk result (fresh.new.history ≡ fresh.old.history ++ left steps.now (e ∷ [])) }
+    ensures carried { (e : Entry Global) → IsWritableEntry e → recorded e ≡ stored.now → (es : List (Entry Global)) → legal fresh.old.settings (e ∷ es) ≡ true → past fresh.old.history ≡ left_for fresh.old.settings steps.now es → MatchResult result (λ _. past fresh.new.history ≡ left_for fresh.old.settings steps.now (e ∷ es)) (λ fault. IsMoment e.moment → IsNoRefusal fault) }
     ensures more { length fresh.old.history ≤ length fresh.new.history }
     ensures settings { fresh.new.settings ≡ fresh.old.settings }
+    ensures legal { is_legal fresh.new.settings fresh.new.history }
 {
     let entry = match entry_of(alloc, stored) {
         Ok(entry) => entry,
-        Err(fault) => return Err(CompactFault::Entering(RestoreRefusal::Record(fault))),
+        Err(fault) => {
+            let _history = fresh.history();
+            return Err(CompactFault::Entering(RestoreRefusal::Record(fault)));
+        }
     };
-    if !steps.is_left(&entry.request) {
-        return Ok(());
-    }
-    match replay_one(fresh, entry) {
+    match enter_kept(steps, fresh, entry) {
         Ok(()) => Ok(()),
         Err(refusal) => Err(CompactFault::Entering(RestoreRefusal::Entry(refusal))),
     }

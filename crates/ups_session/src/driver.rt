@@ -28,7 +28,7 @@ use ups_ulstate::UlEvent;
 /// bytes of one PDU after the other, as in all functions here.
 ///
 /// Errors: a failed write; out of memory.
-fn carry_out<A: Allocator + Copy, E: Environment<A>, P: Party<A>>(
+fn apply_effect<A: Allocator + Copy, E: Environment<A>, P: Party<A>>(
     party: &mut P,
     environment: &mut E,
     buffer: &mut Vec<u8, A>,
@@ -71,7 +71,7 @@ fn perform<A: Allocator + Copy, E: Environment<A>, P: Party<A>>(
 {
     let alloc = *buffer.allocator();
     match party.react(alloc, indication) {
-        Ok(effect) => carry_out(party, environment, buffer, effect),
+        Ok(effect) => apply_effect(party, environment, buffer, effect),
         Err(fault) => Err(fault),
     }
 }
@@ -93,7 +93,7 @@ fn process_pdv<A: Allocator + Copy, E: Environment<A>, P: Party<A>>(
 {
     let alloc = *buffer.allocator();
     match party.react_to_pdv(alloc, &mut pdv) {
-        Ok(effect) => carry_out(party, environment, buffer, effect),
+        Ok(effect) => apply_effect(party, environment, buffer, effect),
         Err(fault) => Err(fault),
     }
 }

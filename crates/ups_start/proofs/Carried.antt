@@ -1,15 +1,21 @@
--- Requests that are read once more: those that stay are entered one by one.
-use Rattle.std.proofs.Common.{◌≡◌, ℕ, ◌<◌, ◌≤◌, ◌+◌, List, [], ◌∷◌, ◌++◌, length, map, take, drop, get_or, sym, ap, ◌∙◌, arith}
+-- Requests that are read once more: those that are kept are entered one by one.
+use Rattle.std.proofs.Common.{◌≡◌, ℕ, ◌<◌, ◌≤◌, ◌+◌, true, List, [], ◌∷◌, ◌++◌, length, map, take, drop, get_or, sym, ap, subst, ◌∙◌, arith}
 use Rattle.std.proofs.Math.Seq.{get_or-append_seam}
 use Rattle.std.proofs.lemmas.List.{append_assoc, length-append, length-map, map-append, get_or-map, take_more, take-append-drop}
-use Rattle.std.proofs.lemmas.List.Elements.{All-get_or, filter-append}
+use Rattle.std.proofs.lemmas.List.Elements.{All-get_or}
 use Rattle.std.specs.List.{All}
 use Rattle.std.specs.declared.alloc.Global.{Global}
 use Rattle.ups_life.specs.declared.entry.Entry.{Entry}
+use Rattle.ups_life.specs.History.{legal}
+use Rattle.ups_life.specs.Settings.{Settings}
+use Rattle.ups_life.specs.Steps.{past}
+use Rattle.ups_life.proofs.Past.{past-push}
+use Rattle.ups_service.specs.Law.{is_legal}
+use Rattle.ups_service.proofs.Legality.{beginning_legal}
 use Rattle.ups_journal.specs.declared.record.Record.{Record}
 use Rattle.ups_journal.specs.Columns.{recorded}
 use Rattle.ups_journal.specs.Writable.{IsWritableEntry}
-use Rattle.ups_compact.specs.Compacting.{is_left, left}
+use Rattle.ups_compact.specs.Compacting.{left_for}
 use Rattle.ups_store.specs.declared.request.StoredRequest.{StoredRequest}
 use Rattle.ups_start.specs.Started.{said}
 
@@ -38,17 +44,19 @@ entry_at (y ∷ ys) before rest r written are =
     )
 
 -- one request more
-pub carried_more : (steps : List (List ℕ)) (h before after : List (Entry Global)) (all old new : List StoredRequest) (n : ℕ) (request : StoredRequest)
-    → take n all ≡ new → new ≡ old ++ request ∷ [] → All (λ (e : Entry Global). IsWritableEntry e) h → map recorded h ≡ said all
-    → before ≡ left steps (take (length old) h) → ((e : Entry Global) → IsWritableEntry e → recorded e ≡ request.asked → after ≡ before ++ left steps (e ∷ []))
-    → after ≡ left steps (take (length new) h)
-carried_more steps h before after all old new n request front more written are was step =
+pub carried_more : (s : Settings) (steps : List (List ℕ)) (h before after : List (Entry Global)) (all old new : List StoredRequest) (n : ℕ) (request : StoredRequest)
+    → take n all ≡ new → new ≡ old ++ request ∷ [] → All (λ (e : Entry Global). IsWritableEntry e) h → map recorded h ≡ said all → is_legal s h
+    → past before ≡ left_for s steps (past (take (length old) h))
+    → ((e : Entry Global) → IsWritableEntry e → recorded e ≡ request.asked → (es : List (Entry Global)) → legal s (e ∷ es) ≡ true → past before ≡ left_for s steps es → past after ≡ left_for s steps (e ∷ es))
+    → past after ≡ left_for s steps (past (take (length new) h))
+carried_more s steps h before after all old new n request front more written are ok was step =
     let e = entry_at h (said old) (said (drop n all)) request.asked written (are ∙ around all old n request (front ∙ more)) in
-    let many : length new ≡ length (said old) + 1 = omega (arith, ap length more, length-append old (request ∷ []), length-map old (λ (r : StoredRequest). r.asked)) in
-    step e.0 e.1 e.2
-    ∙ (ap (λ (l : List (Entry Global)). l ++ left steps (e.0 ∷ [])) (was ∙ ap (λ (k : ℕ). left steps (take k h)) (sym (length-map old (λ (r : StoredRequest). r.asked))))
-    ∙ (sym (filter-append (λ (x : Entry Global). is_left steps x.request) (take (length (said old)) h) (e.0 ∷ []))
-    ∙ (ap (left steps) (sym e.3) ∙ ap (λ (k : ℕ). left steps (take k h)) (sym many))))
+    let first : length (said old) ≡ length old = length-map old (λ (r : StoredRequest). r.asked) in
+    let many : length new ≡ length (said old) + 1 = omega (arith, ap length more, length-append old (request ∷ []), first) in
+    let is : past (take (length new) h) ≡ e.0 ∷ past (take (length (said old)) h) = ap (λ (k : ℕ). past (take k h)) many ∙ (ap past e.3 ∙ past-push (take (length (said old)) h) e.0) in
+    let front_ok : is_legal s (take (length new) h) = beginning_legal s (take (length new) h) (drop (length new) h) (subst (λ (xs : List (Entry Global)). is_legal s xs) (sym (take-append-drop (length new) h)) ok) in
+    step e.0 e.1 e.2 (past (take (length (said old)) h)) (subst (λ (xs : List (Entry Global)). legal s xs ≡ true) is front_ok) (was ∙ ap (λ (k : ℕ). left_for s steps (past (take k h))) (sym first))
+    ∙ ap (left_for s steps) (sym is)
 
 -- all requests were given
 pub carried_all : (h : List (Entry Global)) (all : List StoredRequest) → map recorded h ≡ said all → length h ≤ length all

@@ -8,7 +8,7 @@ use Rattle.ups_restore.specs.declared.leaving.Restored.{Restored}
 use Rattle.ups_restore.specs.declared.leaving.Restoration.{Restoration}
 use Rattle.ups_restore.specs.Leaving.{AreTaken, Becomes, counted_with}
 use Rattle.ups_restore.specs.declared.acknowledging.TheConstants.{COMPACTOR}
-use Rattle.ups_compact.specs.Compacting.{compacted}
+use Rattle.ups_compact.specs.Compacting.{compacted_for, steps_needed}
 use Rattle.ups_life.specs.declared.entry.Entry.{Entry}
 use Rattle.ups_life.specs.Settings.{Settings}
 use Rattle.ups_life.specs.Steps.{past}
@@ -29,7 +29,7 @@ pub record Begins (s : Settings) (found : List (Record Global)) (choices : Start
   pub entered : List (Entry Global)
   pub counts : Restoration
   pub taken : AreTaken s [] found choices.may_leave_out counts entered
-  pub becomes : (after ≡ entered) ⊎ (IsTrue choices.may_compact × (past after ≡ compacted COMPACTOR moment s (past entered)))
+  pub becomes : (after ≡ entered) ⊎ (IsTrue choices.may_compact × (past after ≡ compacted_for COMPACTOR moment s (steps_needed s (past entered)) (past entered)))
 
 -- these choices, but no compaction
 abbrev pub without_compaction : StartChoices → StartChoices

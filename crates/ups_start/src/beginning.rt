@@ -4,7 +4,7 @@ ghost use Rattle.std.specs.Prelude.{◌≡◌, ◌⊎◌, [], map, length, false
 ghost use Rattle.sqlite_trees.specs.View.{View, IsClean};
 ghost use Rattle.ups_journal.specs.Columns.{recorded};
 ghost use Rattle.ups_journal.specs.Writable.{IsWritableEntry};
-ghost use Rattle.ups_compact.specs.Compacting.{compacted};
+ghost use Rattle.ups_compact.specs.Compacting.{compacted_for, steps_needed};
 ghost use Rattle.ups_life.specs.Steps.{past};
 ghost use Rattle.ups_ledger.specs.Keeping.{IsKept, IsSafe};
 ghost use Rattle.ups_restore.specs.declared.acknowledging.TheConstants.{COMPACTOR};
@@ -129,7 +129,7 @@ fn settled<S: Store + Drop, R: Log>(
     ensures kept { IfOk result (λ b. IsClean (requests_shown b.store) → said (requests b.store) ≡ map recorded manager.new.history) }
     ensures is_open { IfOk result (λ b. IsClean (requests_shown b.store) → IsTrue (requests_shown b.store).is_open) }
     ensures clean { IfOk result (λ b. IsClean (requests_shown b.store) → IsClean (requests_shown begun.store)) }
-    ensures becomes { IfOk result (λ _. (manager.new.history ≡ manager.old.history) ⊎ (IsTrue may_compact × (past manager.new.history ≡ compacted COMPACTOR (moment_in about.now) manager.old.settings (past manager.old.history)))) }
+    ensures becomes { IfOk result (λ _. (manager.new.history ≡ manager.old.history) ⊎ (IsTrue may_compact × (past manager.new.history ≡ compacted_for COMPACTOR (moment_in about.now) manager.old.settings (steps_needed manager.old.settings (past manager.old.history)) (past manager.old.history)))) }
     ensures settings { manager.new.settings ≡ manager.old.settings }
 {
     if left_out > 0 {
@@ -166,7 +166,7 @@ fn fresh_of<S: Store>(
     requires whole { choices.may_leave_out ≡ false → IsClean (shown_by reading.old.replay) → said (all_of reading.old.replay) ≡ map recorded manager.now.history }
     requires digested { AreDigested reading.old }
     ensures allowed { IfOk result (λ found. IfSome found (λ fresh. IsTrue choices.may_compact)) }
-    ensures compacted { IfOk result (λ found. IfSome found (λ fresh. IsClean (shown_by reading.new.replay) → past fresh.history ≡ compacted COMPACTOR (moment_in about.now) manager.now.settings (past manager.now.history))) }
+    ensures compacted { IfOk result (λ found. IfSome found (λ fresh. IsClean (shown_by reading.new.replay) → past fresh.history ≡ compacted_for COMPACTOR (moment_in about.now) manager.now.settings (steps_needed manager.now.settings (past manager.now.history)) (past manager.now.history))) }
     ensures same { OnOk result (IsClean (shown_by reading.new.replay) → all_of reading.new.replay ≡ all_of reading.old.replay) }
     ensures ended { OnOk result (IsTrue (has_ended reading.new.replay)) }
     ensures clean { IsClean (shown_by reading.new.replay) → IsClean (shown_by reading.old.replay) }

@@ -4,7 +4,7 @@ ghost use Rattle.std.specs.Prelude.{◌≡◌, ◌≤◌, [], map, length, IfOk,
 ghost use Rattle.sqlite_trees.specs.View.{IsClean};
 ghost use Rattle.ups_life.specs.Settings.{IsMoment};
 ghost use Rattle.ups_life.specs.Steps.{past};
-ghost use Rattle.ups_compact.specs.Compacting.{compacted};
+ghost use Rattle.ups_compact.specs.Compacting.{compacted_for, steps_needed};
 ghost use Rattle.ups_journal.specs.Columns.{recorded};
 ghost use Rattle.ups_restore.specs.declared.acknowledging.TheConstants.{COMPACTOR};
 ghost use Rattle.ups_store.specs.Shown.{requests_shown, requests};
@@ -68,7 +68,7 @@ pub(crate) fn compacted_to<S: Store + Drop>(
 ) -> Result<StartedRun<S>, StartFault>
     requires settings { fresh.old.settings ≡ manager.now.settings }
     requires new { fresh.old.history ≡ [] }
-    ensures compacted { OnOk result (past fresh.new.history ≡ compacted COMPACTOR (moment_in about.now) manager.now.settings (past manager.now.history)) }
+    ensures compacted { OnOk result (past fresh.new.history ≡ compacted_for COMPACTOR (moment_in about.now) manager.now.settings (steps_needed manager.now.settings (past manager.now.history)) (past manager.now.history)) }
     ensures kept { IfOk result (λ b. IsClean (requests_shown b.store) → said (requests b.store) ≡ map recorded fresh.new.history) }
     ensures is_open { IfOk result (λ b. IsClean (requests_shown b.store) → IsTrue (requests_shown b.store).is_open) }
     ensures clean { IfOk result (λ b. IsClean (requests_shown b.store) → IsClean (requests_shown begun.store)) }
@@ -100,7 +100,7 @@ pub(crate) fn compacted<S: Store + Drop, R: Log>(
     about: &Run<'_>,
     manager: &mut Manager<Global>,
 ) -> Result<StartedRun<S>, StartFault>
-    ensures compacted { OnOk result (past manager.new.history ≡ compacted COMPACTOR (moment_in about.now) manager.old.settings (past manager.old.history)) }
+    ensures compacted { OnOk result (past manager.new.history ≡ compacted_for COMPACTOR (moment_in about.now) manager.old.settings (steps_needed manager.old.settings (past manager.old.history)) (past manager.old.history)) }
     ensures kept { IfOk result (λ b. IsClean (requests_shown b.store) → said (requests b.store) ≡ map recorded manager.new.history) }
     ensures is_open { IfOk result (λ b. IsClean (requests_shown b.store) → IsTrue (requests_shown b.store).is_open) }
     ensures clean { IfOk result (λ b. IsClean (requests_shown b.store) → IsClean (requests_shown begun.store)) }

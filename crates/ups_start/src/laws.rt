@@ -2,7 +2,7 @@
 
 ghost use Rattle.std.specs.Prelude.{◌≡◌, ◌⊎◌, ℕ, List, map, take, false, IsTrue};
 ghost use Rattle.std.specs.declared.alloc.Global.{Global};
-ghost use Rattle.ups_compact.specs.Compacting.{compacted};
+ghost use Rattle.ups_compact.specs.Compacting.{compacted_for, steps_needed};
 ghost use Rattle.ups_journal.specs.Columns.{recorded};
 ghost use Rattle.ups_journal.specs.declared.record.Record.{Record};
 ghost use Rattle.ups_life.specs.declared.entry.Entry.{Entry};
@@ -18,5 +18,5 @@ ghost use Rattle.ups_start.specs.Started.{Begins};
 pub fn a_start_has_what_answers_rest_on()
     ensures { (s : Settings) → (found : List (Record Global)) → (choices : StartChoices) → (moment rests : ℕ) → (after seen : List (Entry Global)) → choices.may_leave_out ≡ false → Begins s found choices moment after → take rests found ≡ map recorded (take rests seen)
         → (entered : List (Entry Global)) × (map recorded entered ≡ found) × (map recorded (take rests entered) ≡ map recorded (take rests seen))
-        × ((after ≡ entered) ⊎ (IsTrue choices.may_compact × (past after ≡ compacted COMPACTOR moment s (past entered)))) }
+        × ((after ≡ entered) ⊎ (IsTrue choices.may_compact × (past after ≡ compacted_for COMPACTOR moment s (steps_needed s (past entered)) (past entered)))) }
 {}

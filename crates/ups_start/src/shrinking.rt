@@ -1,9 +1,9 @@
 //! Compacting a store on which no server runs.
 
-ghost use Rattle.std.specs.Prelude.{◌≡◌, [], map, length, false, All, IfOk, IsTrue, OnOk};
+ghost use Rattle.std.specs.Prelude.{◌≡◌, ◌≤◌, [], map, length, false, All, IfOk, IsTrue, OnOk};
 ghost use Rattle.sqlite_trees.specs.View.{View, IsClean};
 ghost use Rattle.ups_life.specs.Steps.{past};
-ghost use Rattle.ups_compact.specs.Compacting.{compacted};
+ghost use Rattle.ups_compact.specs.Compacting.{compacted_for, steps_needed};
 ghost use Rattle.ups_journal.specs.Columns.{recorded};
 ghost use Rattle.ups_journal.specs.Writable.{IsWritableEntry};
 ghost use Rattle.ups_restore.specs.declared.acknowledging.TheConstants.{COMPACTOR};
@@ -15,7 +15,7 @@ ghost use Rattle.ups_start.specs.Opened.{terms_shown};
 ghost use Rattle.ups_start.specs.Started.{said, moment_in};
 
 use crate::beginning::{begin_run, opened};
-use crate::carrying::{carry_all, steps_held};
+use crate::carrying::{carry_all, steps_to_keep};
 use crate::compacting::{compacted_to, moment_of};
 use crate::fault::StartFault;
 use crate::place::StorePlace;
@@ -48,6 +48,14 @@ struct Shrunk<S: Store> {
     before: u64,
 }
 
+/// Returns the number of requests of a manager.
+fn count_of(manager: &Manager<Global>) -> usize
+    ensures count { result ≡ length manager.now.history }
+    ensures few { length manager.now.history ≤ usize.MAX }
+{
+    manager.entries()
+}
+
 /// Gives a manager without requests the compacted history of one that has entered all requests of a store, which are read
 /// once more.
 ///
@@ -64,17 +72,18 @@ fn compact_again<S: Store>(
     requires whole { IsClean (shown_by reading.old.replay) → said (all_of reading.old.replay) ≡ map recorded manager.now.history }
     requires settings { fresh.old.settings ≡ manager.now.settings }
     requires new { fresh.old.history ≡ [] }
-    ensures compacted { OnOk result (IsClean (shown_by reading.new.replay) → past fresh.new.history ≡ compacted COMPACTOR (moment_in about.now) manager.now.settings (past manager.now.history)) }
+    ensures compacted { OnOk result (IsClean (shown_by reading.new.replay) → past fresh.new.history ≡ compacted_for COMPACTOR (moment_in about.now) manager.now.settings (steps_needed manager.now.settings (past manager.now.history)) (past manager.now.history)) }
     ensures same { OnOk result (IsClean (shown_by reading.new.replay) → all_of reading.new.replay ≡ all_of reading.old.replay) }
     ensures clean { IsClean (shown_by reading.new.replay) → IsClean (shown_by reading.old.replay) }
     ensures digested { OnOk result (AreDigested reading.new) }
     ensures settings { fresh.new.settings ≡ fresh.old.settings }
 {
-    let steps = steps_held(alloc, manager)?;
+    let steps = steps_to_keep(alloc, manager)?;
+    let _all = manager.entries();
     reading.again();
     carry_all(alloc, reading, &steps, fresh, usize::MAX)?;
-    let _count = fresh.entries();
-    match acknowledge(alloc, manager, fresh, &steps, moment_of(about)) {
+    let _count = count_of(fresh);
+    match acknowledge(alloc, manager, fresh, moment_of(about)) {
         Ok(()) => Ok(()),
         Err(fault) => Err(StartFault::Compact(fault)),
     }
@@ -98,7 +107,7 @@ fn shrunk_over<S: Alter + Drop>(
     requires whole { IsTrue reads_again → IsClean (shown_by reading.replay) → said (all_of reading.replay) ≡ map recorded manager.now.history }
     requires settings { fresh.old.settings ≡ manager.now.settings }
     requires new { fresh.old.history ≡ [] }
-    ensures compacted { IfOk result (λ s. IsClean (requests_shown s.store) → past fresh.new.history ≡ compacted COMPACTOR (moment_in about.now) manager.now.settings (past manager.now.history)) }
+    ensures compacted { IfOk result (λ s. IsClean (requests_shown s.store) → past fresh.new.history ≡ compacted_for COMPACTOR (moment_in about.now) manager.now.settings (steps_needed manager.now.settings (past manager.now.history)) (past manager.now.history)) }
     ensures kept { IfOk result (λ s. IsClean (requests_shown s.store) → said (requests s.store) ≡ map recorded fresh.new.history) }
     ensures clean { IfOk result (λ s. IsClean (requests_shown s.store) → IsClean (shown_by reading.replay)) }
 {
@@ -142,7 +151,7 @@ fn compact_over<S: Alter + Drop, R: Clock + Log>(
 ) -> Result<Shrunk<S>, StartFault>
     requires settings { fresh.old.settings ≡ manager.old.settings }
     requires new { fresh.old.history ≡ [] }
-    ensures compacted { IfOk result (λ s. IsClean (requests_shown s.store) → past fresh.new.history ≡ compacted COMPACTOR (moment_in about.now) manager.new.settings (past manager.new.history)) }
+    ensures compacted { IfOk result (λ s. IsClean (requests_shown s.store) → past fresh.new.history ≡ compacted_for COMPACTOR (moment_in about.now) manager.new.settings (steps_needed manager.new.settings (past manager.new.history)) (past manager.new.history)) }
     ensures kept { IfOk result (λ s. IsClean (requests_shown s.store) → said (requests s.store) ≡ map recorded fresh.new.history) }
     ensures permits { IfOk result (λ s. choices.may_change_terms ≡ false → IsClean (requests_shown s.store) → PermitsNoted manager.old.settings (last_terms_of replay)) }
     ensures settings { manager.new.settings ≡ manager.old.settings }
@@ -199,7 +208,7 @@ pub fn compact<P: StorePlace, R: Clock + Log>(
 ) -> Result<Compacted, StartFault>
     requires settings { fresh.old.settings ≡ manager.old.settings }
     requires new { fresh.old.history ≡ [] }
-    ensures compacted { OnOk result ((shrunk : RequestStore P.Store P.Store.Store) × (IsClean (requests_shown shrunk) → (past fresh.new.history ≡ compacted COMPACTOR (moment_in about.now) manager.new.settings (past manager.new.history)) × (said (requests shrunk) ≡ map recorded fresh.new.history))) }
+    ensures compacted { OnOk result ((shrunk : RequestStore P.Store P.Store.Store) × (IsClean (requests_shown shrunk) → (past fresh.new.history ≡ compacted_for COMPACTOR (moment_in about.now) manager.new.settings (steps_needed manager.new.settings (past manager.new.history)) (past manager.new.history)) × (said (requests shrunk) ≡ map recorded fresh.new.history))) }
     ensures permits { OnOk result ((found : View) × P.finds place.now found × (shrunk : RequestStore P.Store P.Store.Store) × (choices.may_change_terms ≡ false → IsClean (requests_shown shrunk) → PermitsNoted manager.old.settings (terms_shown found))) }
     ensures settings { manager.new.settings ≡ manager.old.settings }
 {

@@ -25,11 +25,14 @@ pub(crate) type Places<A> = IndexMap<
 >;
 
 /// Returns the row and the holder of a step, or None if it is not held.
-pub(crate) fn find<A: Allocator + Copy>(places: &Places<A>, step: StepUid) -> Option<&HeldRow<A>>
-    ensures { option_copied result ≡ held_at step (held_in places.now.entries) }
+pub(crate) fn find<'a, A: Allocator + Copy>(
+    places: &'a Places<A>,
+    step: &StepUid,
+) -> Option<&'a HeldRow<A>>
+    ensures { option_copied result ≡ held_at step.now (held_in places.now.entries) }
 {
     places.len();
-    match places.get(&step) {
+    match places.get(step) {
         Some(place) => place.as_ref(),
         None => None,
     }

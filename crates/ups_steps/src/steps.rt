@@ -85,7 +85,7 @@ impl<A: Allocator + Copy> Steps<A> {
     pub fn get(&self, step: StepUid) -> Option<&HeldRow<A>>
         ensures { option_copied result ≡ held_at step self.now.entries }
     {
-        find(&self.places, step)
+        find(&self.places, &step)
     }
 
     /// Returns the time at which the state of a step became final, or None if it is not final or the step is not held.

@@ -57,6 +57,10 @@ pub record Fresh {A : Type 0} (s : Settings) (es : List (Entry A)) (e : Entry A)
   pub row : x.row ≡ row_after s.offset e.moment (unwrap_or (row_held (held_at step t.steps.entries)) nothing) e.request
   pub holder : x.holder ≡ option_or (claims_it e) (holder_held (held_at step t.steps.entries))
 
+-- what is told of a step that is created does not depend on what was before
+pub created_news : {A : Type 0} (step : List ℕ) (before after : Row A) (r : Request A) (named : List ℕ) (set : List El) → r ≡ Create named set → report_now step after ∷ [] ≡ news_by step before after r
+created_news step before after r named set is = ap (λ (x : Request _). news_by step before after x) (sym is)
+
 module _ {A : Type 0} (s : Settings) (history : List (Entry A)) (e : Entry A) (t : Tables A) (step : List ℕ) (x : HeldRow A) (old : Stands s history t) (fresh : Fresh s (past history) e t step x) where
   kept : as_steps t.steps.entries ≡ held_steps s (past history)
   kept = steps_kept s history t old

@@ -46,7 +46,7 @@ pub(crate) fn create<A: Allocator + Copy>(
         .queues
         .tell_each(tables.watchers.of_step(step), entry, news);
     tables.steps.push(step, held);
-    tables.watchers.peers();
+    tables.watchers.learn();
 }
 
 /// Replaces the row and the holder of a step, for a change of its state, a request to cancel it, or attributes that are
@@ -80,7 +80,7 @@ pub(crate) fn change<A: Allocator + Copy>(
     let after = waiting_in(&tables.watchers, step, held.row.final_at);
     settle(&mut tables.due, step, before, after);
     tables.steps.put(step, held);
-    tables.watchers.peers();
+    tables.watchers.learn();
 }
 
 /// Replaces the row and the holder of a step, for a change of its state or a request to cancel it (PS3.4 CC.2.1,
@@ -125,7 +125,7 @@ pub(crate) fn subscribe_single<A: Allocator + Copy>(
     let after = waiting_in(&tables.watchers, step, since);
     settle(&mut tables.due, step, before, after);
     tables.queues.tell(peer, entry, news);
-    tables.watchers.peers();
+    tables.watchers.learn();
 }
 
 /// Gives a peer a global subscription, subscribes it to the `chosen` steps, and tells it `news` (PS3.4 CC.2.3). The
@@ -152,7 +152,7 @@ pub(crate) fn subscribe_all<A: Allocator + Copy>(
     tables.watchers.global(peer, cover, chosen);
     settle_many(&mut tables.due, &tables.watchers, Some(subscription), freed);
     tables.queues.tell(peer, entry, news);
-    tables.watchers.peers();
+    tables.watchers.learn();
 }
 
 /// Ends the subscription of a peer to one step (PS3.4 CC.2.3).
@@ -168,7 +168,7 @@ pub(crate) fn end_single<A: Allocator + Copy>(tables: &mut Tables<A>, peer: usiz
     tables.watchers.unsubscribe(peer, Place::At(Some(step)));
     let after = waiting_in(&tables.watchers, step, since);
     settle(&mut tables.due, step, before, after);
-    tables.watchers.peers();
+    tables.watchers.learn();
 }
 
 /// Ends all subscriptions of a peer (PS3.4 CC.2.3). The `freed` steps are those on which only this peer had a deletion
@@ -187,7 +187,7 @@ pub(crate) fn end_everywhere<A: Allocator + Copy>(
 {
     tables.watchers.unsubscribe(peer, Place::Everywhere);
     settle_many(&mut tables.due, &tables.watchers, None, freed);
-    tables.watchers.peers();
+    tables.watchers.learn();
 }
 
 /// Ends the global subscription of a peer. Its subscriptions to steps stay (PS3.4 CC.2.3).
@@ -198,7 +198,7 @@ pub(crate) fn suspend<A: Allocator + Copy>(tables: &mut Tables<A>, peer: usize)
     ensures fits { TablesFit tables.new }
 {
     tables.watchers.suspend(peer);
-    tables.watchers.peers();
+    tables.watchers.learn();
 }
 
 /// Acknowledges the events of a peer up to a number, which it may acknowledge: they leave its queue.
@@ -212,7 +212,7 @@ pub(crate) fn acknowledge_upto<A: Allocator + Copy>(tables: &mut Tables<A>, peer
     let Ok(_) = tables.queues.ack(peer, upto) else {
         unreachable!();
     };
-    tables.watchers.peers();
+    tables.watchers.learn();
 }
 
 /// Removes the steps that became final no later than a moment and that no peer has a deletion lock on, with all
@@ -226,5 +226,5 @@ pub(crate) fn sweep<A: Allocator + Copy>(tables: &mut Tables<A>, due: &[Final], 
     forget(&mut tables.watchers, due);
     tables.steps.remove(due);
     tables.due.sweep(moment);
-    tables.watchers.peers();
+    tables.watchers.learn();
 }

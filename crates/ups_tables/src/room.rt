@@ -3,6 +3,7 @@
 ghost use Rattle.std.specs.Prelude.{◌≡◌, ◌≤◌, ◌<◌, ℕ, None, is_some, true, length, slice_index_or, IsOk, OnOk};
 ghost use Rattle.std.specs.HashSet as set;
 ghost use Rattle.ups_events.specs.Queue.{queue_at, IsReserved};
+ghost use Rattle.ups_watch.specs.Table.{cells_of, watching};
 ghost use Rattle.ups_tables.specs.Fit.{how, TablesFit};
 ghost use Rattle.ups_tables.specs.Effects.{Reserved, RoomFor};
 ghost use Rattle.ups_tables.specs.Planned.{RoomToCreate, RoomToChange};
@@ -52,6 +53,28 @@ fn reserve_cells<A: Allocator + Copy>(
         reserve_if(queues, cell.is_some(), peer, more)?;
     }
     Ok(())
+}
+
+/// Makes room for `news` further events of each peer that is subscribed to a step. Most changes tell nothing, and then
+/// the step is not looked up.
+///
+/// Errors: if memory runs out, but never if there is that room already.
+fn reserve_watchers<A: Allocator + Copy>(
+    queues: &mut Queues<A>,
+    watchers: &Watchers<A>,
+    step: StepUid,
+    news: usize,
+) -> Result<(), AllocError>
+    requires { length (cells_of watchers.now step) ≤ length queues.old }
+    ensures room { OnOk result (RoomFor (λ p. is_some (watching watchers.now p step)) news queues.new) }
+    ensures succeeds { RoomFor (λ p. is_some (watching watchers.now p step)) news queues.old → IsOk result }
+    ensures same { (p : ℕ) → IsReserved (queue_at queues.old p) (queue_at queues.new p) }
+    ensures peers { length queues.new ≡ length queues.old }
+{
+    if news == 0 {
+        return Ok(());
+    }
+    reserve_cells(queues, watchers.of_step(step), news)
 }
 
 /// Makes room for `more` further events of each peer that has a global subscription.
@@ -118,7 +141,7 @@ pub(crate) fn make_room_to_change<A: Allocator + Copy>(
     ensures fits { TablesFit tables.new }
 {
     tables.due.reserve(1)?;
-    reserve_cells(&mut tables.queues, tables.watchers.of_step(step), news)?;
+    reserve_watchers(&mut tables.queues, &tables.watchers, step, news)?;
     reserve_cells(&mut tables.queues, newly, first)
 }
 

@@ -75,15 +75,18 @@ pub fn plan_step<A: Allocator + Copy>(
     requires holder { held.holder ≡ option_or (claims_it entry.now) (holder_held (held_at step tables.now.steps.entries)) }
     ensures { IfOk result (λ p. IsPlan configuration.now (past history.now.entries) entry.now tables.now p) }
 {
+    if let Request::Create { .. } = &entry.request {
+        let created = alone(alloc, report_now(step, &held.row))?;
+        return Ok(Plan::Create {
+            step,
+            held,
+            news: created,
+        });
+    }
     let found = tables.steps.get(step);
     let before = row_of(found);
     let told = news(alloc, step, before, &held.row, &entry.request)?;
     match &entry.request {
-        Request::Create { .. } => Ok(Plan::Create {
-            step,
-            held,
-            news: told,
-        }),
         Request::Set { .. } => {
             let newly = newly_of(tables, step, before, &held.row.attributes)?;
             let first = alone(alloc, report_now(step, &held.row))?;

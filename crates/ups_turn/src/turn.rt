@@ -108,7 +108,7 @@ pub(crate) fn low_half(word: u64) -> u32 {
 }
 
 /// Enters `entered` requests: as many as the manager in the seat's hands has beyond those that the pass has seen.
-fn decide<M: SharedService<A>, A: Allocator + Copy>(
+fn count_entered<M: SharedService<A>, A: Allocator + Copy>(
     shelf: &DeskTable<M, A>,
     place: &mut PassSeat<M, A>,
     entered: u64,
@@ -179,7 +179,7 @@ fn give<M: SharedService<A>, A: Allocator + Copy>(
     let None = shelf.exchange(place, 0, Some(manager)) else {
         unreachable!()
     };
-    decide(shelf, place, count);
+    count_entered(shelf, place, count);
     let served = serve(shelf, place);
     wake(shelf, served);
 }

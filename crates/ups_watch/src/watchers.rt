@@ -247,6 +247,13 @@ impl<A: Allocator + Copy> Watchers<A> {
         is_kept_with(self.of_step(step), peer, subscription)
     }
 
+    /// Does nothing at run time: its contract tells a proof that `of_step` has a cell for each peer if the step is known.
+    pub fn learn(&self)
+        ensures { (u : List ℕ) → knows self.now u ≡ true → length (cells_of self.now u) ≡ length self.now.covers }
+    {
+        let _ = &self.covers;
+    }
+
     /// Returns the number of peers. `of_step` has a cell for each of them if the step is known.
     pub fn peers(&self) -> usize
         ensures peers { result ≡ length self.now.covers }

@@ -1,6 +1,6 @@
 use crate::rows::{CREATE, CREATED};
 use fixtures::bytes_of;
-use fixtures::rows::{cut, cut_twice};
+use fixtures::rows::{check, cut, cut_twice};
 use std::alloc::{Allocator, Global};
 use std::test::*;
 use ups_assoc::*;
@@ -183,7 +183,7 @@ const FRAGMENTS: &str = "0 3 CREATED=UnknownContext
 #[test]
 fn each_fragment_is_answered(rt: HostRuntime) -> Result<(), Fail> {
     for row in FRAGMENTS.lines() {
-        assert!(rt; are_answered(&rt, row)?, "at {row}");
+        check(row, are_answered(&rt, row)?)?;
     }
     Ok(())
 }

@@ -1,7 +1,7 @@
 use super::fragments::{are_bytes, assembler_on, is_answered, named};
 use crate::rows::CREATE;
 use fixtures::bytes_of;
-use fixtures::rows::{self, cut_twice};
+use fixtures::rows::{self, check, cut_twice};
 use std::alloc::Global;
 use std::test::*;
 use ups_assoc::*;
@@ -109,7 +109,7 @@ fn are_pieces_of(rt: &impl AllocGlobal, row: &str) -> Result<bool, Fail> {
 #[test]
 fn each_piece_is_as_long_as_the_peer_takes(rt: HostRuntime) -> Result<(), Fail> {
     for row in PIECES.lines() {
-        assert!(rt; are_pieces_of(&rt, row)?, "at {row}");
+        check(row, are_pieces_of(&rt, row)?)?;
     }
     Ok(())
 }
@@ -145,7 +145,7 @@ fn is_fragment_of(rt: &impl AllocGlobal, row: &str) -> Result<bool, Fail> {
 #[test]
 fn a_fragment_is_written_as_a_pdu_of_its_own(rt: HostRuntime) -> Result<(), Fail> {
     for row in FRAGMENTS.lines() {
-        assert!(rt; is_fragment_of(&rt, row)?, "at {row}");
+        check(row, is_fragment_of(&rt, row)?)?;
     }
     Ok(())
 }

@@ -1,4 +1,5 @@
 use super::{answer_to, picture};
+use fixtures::rows::check_same;
 use std::alloc::Global;
 use std::test::Fail;
 use ups_manager::*;
@@ -105,7 +106,7 @@ fn a_manager_replies_and_enters_as_each_section_says(rt: HostRuntime) -> Result<
     for section in SECTIONS.split("\n# ") {
         let (heading, rows) = section.split_once('\n').ok_or("rows")?;
         let found = rows_of(&rt, rows, heading.ends_with("as a service"))?;
-        assert_eq!(rt; found.as_str().trim_end(), rows, "{heading}");
+        check_same(heading, found.as_str().trim_end(), rows)?;
     }
     Ok(())
 }

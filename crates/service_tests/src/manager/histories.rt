@@ -4,11 +4,10 @@
 use super::plain::{Dice, KEYS, found_by_both, settings_of};
 use super::twin::{compare_replies, compare_twin, let_go_by_chance, set_aside};
 use super::words::{FILTERING, LASTING, WORDS};
-use fixtures::rows::{cut, number};
+use fixtures::rows::{check, cut, number};
 use fixtures::title;
 use fixtures::words::message_of;
 use std::alloc::{Allocator, Global};
-use std::process::Abort;
 use std::test::Fail;
 use ups_cycle::StepState;
 use ups_life::{
@@ -637,27 +636,30 @@ fn is_enough(row: &str, count: u64) -> Result<bool, Fail> {
 }
 
 /// Makes random histories of a kind, with dice that start in a given state, and compares the answers about each.
-fn histories_are_told<R: Abort + AllocGlobal>(rt: &R, kind: &Kind, state: u64) -> Result<(), Fail> {
+fn histories_are_told<R: AllocGlobal>(rt: &R, kind: &Kind, state: u64) -> Result<(), Fail> {
     let counts = counts_from(rt, kind, state)?;
-    assert_eq!(rt; kind.least.lines().count(), COUNTED);
+    check(
+        "a row for each count",
+        kind.least.lines().count() == COUNTED,
+    )?;
     for (row, count) in kind.least.lines().zip(counts.iter()) {
-        assert!(rt; is_enough(row, *count)?, "{row}: {count}");
+        check(row, is_enough(row, *count)?)?;
     }
     Ok(())
 }
 
 /// Makes histories of all requests.
-fn any_are_told<R: Abort + AllocGlobal>(rt: &R, state: u64) -> Result<(), Fail> {
+fn any_are_told<R: AllocGlobal>(rt: &R, state: u64) -> Result<(), Fail> {
     histories_are_told(rt, &ANY, state)
 }
 
 /// Makes histories about filters.
-fn filters_are_told<R: Abort + AllocGlobal>(rt: &R, state: u64) -> Result<(), Fail> {
+fn filters_are_told<R: AllocGlobal>(rt: &R, state: u64) -> Result<(), Fail> {
     histories_are_told(rt, &FILTERED, state)
 }
 
 /// Makes long histories.
-fn long_are_told<R: Abort + AllocGlobal>(rt: &R, state: u64) -> Result<(), Fail> {
+fn long_are_told<R: AllocGlobal>(rt: &R, state: u64) -> Result<(), Fail> {
     histories_are_told(rt, &LONG, state)
 }
 

@@ -3,6 +3,7 @@
 use super::counted::rows_are_so;
 use super::histories::a_lasting_manager;
 use super::{answer_to, text_of};
+use fixtures::rows::{check, check_same};
 use fixtures::{described, title};
 use std::alloc::{Allocator, Global};
 use std::test::Fail;
@@ -99,38 +100,55 @@ fn a_manager_behind(rt: &impl AllocGlobal, rows: &str) -> Result<Manager<Global>
     Ok(manager)
 }
 
+/// Fails unless these reports are pending for the watcher.
+fn expect_pending(
+    rt: &impl AllocGlobal,
+    manager: &Manager<Global>,
+    wanted: &str,
+) -> Result<(), Fail> {
+    check_same("pending", pending(rt, manager)?.as_str().trim_end(), wanted)
+}
+
+/// Fails unless a manager has this many requests, of which as many as `recent` are shown.
+fn expect_entries(manager: &Manager<Global>, entries: usize, recent: usize) -> Result<(), Fail> {
+    check("requests", manager.entries() == entries)?;
+    check("recent requests", manager.history().len() == recent)
+}
+
 #[test]
 fn a_uid_stays_used_after_the_requests_on_its_step_have_left(rt: HostRuntime) -> Result<(), Fail> {
     let mut manager = a_manager_behind(&rt, "")?;
-    assert!(rt; manager.whole().is_none());
+    check("some have left", manager.whole().is_none())?;
     rows_are_so(&rt, &mut manager, CREATIONS)
 }
 
 #[test]
 fn pending_reports_of_a_removed_step_keep_their_content(rt: HostRuntime) -> Result<(), Fail> {
     let manager = a_manager_behind(&rt, "")?;
-    assert!(rt; manager.history().is_empty());
-    assert_eq!(rt; pending(&rt, &manager)?.as_str().trim_end(), PENDING);
-    Ok(())
+    expect_entries(&manager, 7 + MANY, 0)?;
+    expect_pending(&rt, &manager, PENDING)
 }
 
 #[test]
 fn requests_leave_after_their_reports_are_acknowledged(rt: HostRuntime) -> Result<(), Fail> {
     let manager = a_manager_behind(&rt, ACKNOWLEDGED)?;
-    assert!(rt; manager.history().is_empty());
-    assert!(rt; manager.whole().is_none());
-    assert_eq!(rt; pending(&rt, &manager)?.as_str(), "");
-    Ok(())
+    expect_entries(&manager, 8 + MANY, 0)?;
+    check("some have left", manager.whole().is_none())?;
+    expect_pending(&rt, &manager, "")
+}
+
+/// Returns how many requests a manager has, if all are in memory.
+fn in_memory(manager: &Manager<Global>) -> Option<usize> {
+    Some(manager.whole()?.len())
 }
 
 #[test]
 fn all_requests_are_there_until_some_are_let_go_of(rt: HostRuntime) -> Result<(), Fail> {
     let mut manager = a_lasting_manager(rt.alloc())?;
     rows_are_so(&rt, &mut manager, REMOVED)?;
-    assert_eq!(rt; manager.history().len(), 7);
-    assert_eq!(rt; manager.whole().map(|entries| entries.len()), Some(7));
-    assert_eq!(rt; pending(&rt, &manager)?.as_str().trim_end(), PENDING);
-    Ok(())
+    expect_entries(&manager, 7, 7)?;
+    check("all in memory", in_memory(&manager) == Some(7))?;
+    expect_pending(&rt, &manager, PENDING)
 }
 
 #[test]
@@ -138,17 +156,14 @@ fn requests_and_events_are_counted_on_behind_those_that_have_left(
     rt: HostRuntime,
 ) -> Result<(), Fail> {
     let mut manager = a_manager_behind(&rt, ACKNOWLEDGED)?;
-    assert_eq!(rt; manager.entries(), 8 + MANY);
+    expect_entries(&manager, 8 + MANY, 0)?;
     rows_are_so(&rt, &mut manager, CREATIONS)?;
-    assert_eq!(rt; manager.entries(), 9 + MANY);
-    assert_eq!(rt; manager.history().len(), 1);
-    assert_eq!(rt; pending(&rt, &manager)?.as_str().trim_end(), CREATED);
-    Ok(())
+    expect_entries(&manager, 9 + MANY, 1)?;
+    expect_pending(&rt, &manager, CREATED)
 }
 
 #[test]
 fn a_lasting_manager_has_a_limit_that_no_history_reaches(rt: HostRuntime) -> Result<(), Fail> {
     let manager = a_lasting_manager(rt.alloc())?;
-    assert_eq!(rt; manager.limit(), LASTING_LIMIT);
-    Ok(())
+    check("limit", manager.limit() == LASTING_LIMIT)
 }

@@ -7,7 +7,6 @@ use super::{
 use fixtures::rows::{check, cut, cut_twice, number};
 use fixtures::{Refusing, title};
 use std::alloc::{Allocator, Global};
-use std::process::Abort;
 use std::test::Fail;
 use ups_life::{Event, Reply, Subscription};
 use ups_manager::*;
@@ -266,21 +265,20 @@ fn is_so<'a>(
 }
 
 /// Asks a manager all rows of requests, one after the other.
-fn rows_are_so<'a, R: Abort + AllocGlobal>(
+fn rows_are_so<'a, R: AllocGlobal>(
     rt: &R,
     heap: &'a Refusing<Global>,
     manager: &mut Manager<&'a Refusing<Global>>,
     is_service: bool,
 ) -> Result<(), Fail> {
     for row in ROWS.lines() {
-        assert!(rt; is_so(rt, heap, manager, row, is_service)?, "{row}");
+        check(row, is_so(rt, heap, manager, row, is_service)?)?;
     }
-    assert_eq!(rt; manager.history().len(), 8);
-    Ok(())
+    check("8 requests", manager.history().len() == 8)
 }
 
 /// The same with a new manager.
-fn rows_are_so_anew<R: Abort + AllocGlobal>(rt: &R, is_service: bool) -> Result<(), Fail> {
+fn rows_are_so_anew<R: AllocGlobal>(rt: &R, is_service: bool) -> Result<(), Fail> {
     let heap = Refusing::new(rt.alloc());
     let mut manager = Manager::new(&heap, &[], 60, 0, 10)?;
     rows_are_so(rt, &heap, &mut manager, is_service)
@@ -313,7 +311,7 @@ fn is_so_beside<'a>(
 }
 
 /// Asks a manager, and one with ample memory beside it, all rows about watchers, one after the other.
-fn rows_are_so_beside<'a, R: Abort + AllocGlobal>(
+fn rows_are_so_beside<'a, R: AllocGlobal>(
     rt: &R,
     heap: &'a Refusing<Global>,
     manager: &mut Manager<&'a Refusing<Global>>,
@@ -321,14 +319,16 @@ fn rows_are_so_beside<'a, R: Abort + AllocGlobal>(
     is_service: bool,
 ) -> Result<(), Fail> {
     for row in WATCHING.lines() {
-        let is_so = is_so_beside(rt, heap, manager, ample, row, is_service)?;
-        assert!(rt; is_so, "{row}");
+        check(
+            row,
+            is_so_beside(rt, heap, manager, ample, row, is_service)?,
+        )?;
     }
     Ok(())
 }
 
 /// The same with a new manager with ample memory.
-fn rows_are_so_beside_a_new_one<'a, R: Abort + AllocGlobal>(
+fn rows_are_so_beside_a_new_one<'a, R: AllocGlobal>(
     rt: &R,
     heap: &'a Refusing<Global>,
     manager: &mut Manager<&'a Refusing<Global>>,
@@ -339,7 +339,7 @@ fn rows_are_so_beside_a_new_one<'a, R: Abort + AllocGlobal>(
 }
 
 /// The same with two new managers.
-fn rows_are_so_beside_anew<R: Abort + AllocGlobal>(rt: &R, is_service: bool) -> Result<(), Fail> {
+fn rows_are_so_beside_anew<R: AllocGlobal>(rt: &R, is_service: bool) -> Result<(), Fail> {
     let heap = Refusing::new(rt.alloc());
     let mut manager = a_manager(&heap)?;
     rows_are_so_beside_a_new_one(rt, &heap, &mut manager, is_service)
@@ -393,20 +393,20 @@ fn is_so_confined<'a>(
 }
 
 /// Asks a manager rows, one after the other.
-fn rows_are_so_confined<'a, R: Abort + AllocGlobal>(
+fn rows_are_so_confined<'a, R: AllocGlobal>(
     rt: &R,
     heap: &'a Refusing<Global>,
     manager: &mut Manager<&'a Refusing<Global>>,
     rows: &str,
 ) -> Result<(), Fail> {
     for row in rows.lines() {
-        assert!(rt; is_so_confined(rt, heap, manager, row)?, "{row}");
+        check(row, is_so_confined(rt, heap, manager, row)?)?;
     }
     Ok(())
 }
 
 /// The same with a new manager.
-fn rows_are_so_confined_anew<R: Abort + AllocGlobal>(rt: &R, rows: &str) -> Result<(), Fail> {
+fn rows_are_so_confined_anew<R: AllocGlobal>(rt: &R, rows: &str) -> Result<(), Fail> {
     let heap = Refusing::new(rt.alloc());
     let mut manager = a_manager(&heap)?;
     rows_are_so_confined(rt, &heap, &mut manager, rows)
@@ -516,14 +516,12 @@ fn growths_behind_anew(rt: &impl AllocGlobal, rows: &str) -> Result<u64, Fail> {
 fn nothing_is_lost_where_a_growth_is_refused_as_requests_leave(
     rt: HostRuntime,
 ) -> Result<(), Fail> {
-    assert!(rt; growths_behind_anew(&rt, "")? > 1);
-    Ok(())
+    check("growths", growths_behind_anew(&rt, "")? > 1)
 }
 
 #[test]
 fn no_memory_is_taken_for_requests_whose_reports_are_acknowledged(
     rt: HostRuntime,
 ) -> Result<(), Fail> {
-    assert!(rt; growths_behind_anew(&rt, ACKNOWLEDGED)? <= 1);
-    Ok(())
+    check("growths", growths_behind_anew(&rt, ACKNOWLEDGED)? <= 1)
 }

@@ -2,7 +2,7 @@ ghost use Rattle.std.specs.Prelude.{IfOk};
 ghost use Rattle.ups_life.specs.Settings.{IsOffset};
 
 use super::{answer_to, keys_of};
-use fixtures::rows::cut;
+use fixtures::rows::{check, cut};
 use std::alloc::{AllocError, Global};
 use std::test::Fail;
 use ups_dataset::{DataSet, write_set};
@@ -223,9 +223,8 @@ fn found_and_entered_anew(rt: &impl AllocGlobal) -> Result<(usize, usize), Fail>
 #[test]
 fn the_plain_program_finds_the_same(rt: HostRuntime) -> Result<(), Fail> {
     let (count, entries) = found_and_entered_anew(&rt)?;
-    assert!(rt; entries > 150);
-    assert!(rt; count > 100);
-    Ok(())
+    check("entries", entries > 150)?;
+    check("found", count > 100)
 }
 
 /// Returns how many keys a filter with these attributes has, or None if they are not a filter.
@@ -238,8 +237,8 @@ fn keys_in_filter(alloc: Global, keys: &str) -> Result<Option<usize>, Fail> {
 
 #[test]
 fn keys_that_are_all_universal_are_no_filter(rt: HostRuntime) -> Result<(), Fail> {
-    assert_eq!(rt; keys_in_filter(rt.alloc(), "00741202=")?, None);
-    assert_eq!(rt; keys_in_filter(rt.alloc(), "00741202=* ")?, None);
-    assert_eq!(rt; keys_in_filter(rt.alloc(), "00741202=READS")?, Some(1));
-    Ok(())
+    let alloc = rt.alloc();
+    check("no text", keys_in_filter(alloc, "00741202=")?.is_none())?;
+    check("wild card", keys_in_filter(alloc, "00741202=* ")?.is_none())?;
+    check("text", keys_in_filter(alloc, "00741202=READS")? == Some(1))
 }

@@ -1,3 +1,4 @@
+use fixtures::rows::check;
 use fixtures::{Refusing, title};
 use std::alloc::{Allocator, Global};
 use std::test::Fail;
@@ -142,7 +143,7 @@ fn is_so(rt: &impl AllocGlobal, row: &str) -> Result<bool, Fail> {
 #[test]
 fn a_manager_has_the_settings_that_are_allowed(rt: HostRuntime) -> Result<(), Fail> {
     for row in ROWS.lines() {
-        assert!(rt; row.starts_with("# ") || is_so(&rt, row)?, "{row}");
+        check(row, row.starts_with("# ") || is_so(&rt, row)?)?;
     }
     Ok(())
 }

@@ -10,6 +10,6 @@ pub returns-clause-has : goal.returns-clause-has
 returns-clause-has g c number place h low high =
     let found : Contains c.add_places.new.places.items place = elim (c.runs-run.ensures number place h low high) [
       | inl x ↦ c.in_ok-add_places.ensures.keeps place (c.in_ok-add_run.ensures.has number place x)
-      | inr y ↦ c.in_ok-add_places.ensures.has number place y
+      | inr y ↦ c.in_ok-add_places.ensures.has number place y low high
     ] in
     Contains-permutation _ _ place c.sort_unstable.ensures.permutation found

@@ -14,15 +14,15 @@ use Rattle.ups_manager.specs.declared.submitting.SubmitFault.TheVariants.{Refuse
 use Rattle.ups_manager.specs.Faults.{RowFails}
 use Rattle.ups_manager.proofs.submitting.step_for.Goals as goal
 
-pub returns-in_err-decide-clause-fault : goal.returns-in_err-decide-clause-fault
-returns-in_err-decide-clause-fault g c =
+pub returns-in_err-check_allowed-clause-fault : goal.returns-in_err-check_allowed-clause-fault
+returns-in_err-check_allowed-clause-fault g c =
     let p = err_from_is_err_and c.from_residual.result c.from_residual.ensures.1 in
     let r = c.args.call.now.request in
     let again = repeats (past c.args.history.now.entries) r in
     let row : option_copied c.row_of-row.result ≡ row_held (held_at c.args.step c.args.tables.now.steps.entries) = c.row_of-row.ensures ∙ ap row_held c.find-held.ensures in
     rw (p.1, p.2) (inl (
-      c.in_err-decide.ensures.refused ∙ ap (λ o. Refused (verdict o again r)) row,
-      ap (λ o. is_done (verdict o again r)) (sym row) ∙ c.in_err-decide.ensures.error,
+      c.in_err-check_allowed.ensures.refused ∙ ap (λ o. Refused (verdict o again r)) row,
+      ap (λ o. is_done (verdict o again r)) (sym row) ∙ c.in_err-check_allowed.ensures.error,
     ))
 
 pub returns-in_err-row-clause-fault : goal.returns-in_err-row-clause-fault
@@ -32,7 +32,7 @@ returns-in_err-row-clause-fault g c =
     let again = repeats (past c.args.history.now.entries) r in
     let row : option_copied c.row_of-row.result ≡ row_held (held_at c.args.step c.args.tables.now.steps.entries) = c.row_of-row.ensures ∙ ap row_held c.find-held.ensures in
     rw (p.1, p.2) (inr (
-      ap (λ o. verdict o again r) (sym row) ∙ c.in_ok-decide.ensures.allowed,
+      ap (λ o. verdict o again r) (sym row) ∙ c.in_ok-check_allowed.ensures.allowed,
       subst (λ (o : Option (Row g.row.A.Denot)). RowFails c.args.offset c.args.call.now.moment (unwrap_or o nothing) r c.in_err-row.field-0.0) row
           (subst (λ (z : ℤ). RowFails z c.args.call.now.moment (unwrap_or (option_copied c.row_of-row.result) nothing) r c.in_err-row.field-0.0) (to_z-of_z w16 c.args.offset c.ranges.offset) c.in_err-row.ensures.fault),
     ))
@@ -41,7 +41,7 @@ pub returns-clause-allowed : goal.returns-clause-allowed
 returns-clause-allowed g c =
     let r = c.args.call.now.request in
     let row : option_copied c.row_of-row.result ≡ row_held (held_at c.args.step c.args.tables.now.steps.entries) = c.row_of-row.ensures ∙ ap row_held c.find-held.ensures in
-    ap (λ o. verdict o (repeats (past c.args.history.now.entries) r) r) (sym row) ∙ c.in_ok-decide.ensures.allowed
+    ap (λ o. verdict o (repeats (past c.args.history.now.entries) r) r) (sym row) ∙ c.in_ok-check_allowed.ensures.allowed
 
 pub returns-clause-row : goal.returns-clause-row
 returns-clause-row g c =

@@ -16,9 +16,9 @@ returns-in-Err-clause-only c = λ ok.
     c.in-Err.ensures.legally
     (subst (λ (es : List (Entry _)). is_legal c.args.fresh.now.settings (c.args.fresh.now.history ++ es)) is ok)
     (subst (λ (es : List (Entry _)). All (λ (e : Entry _). IsMoment e.moment) es) is
-    (moments_of COMPACTOR c.args.moment (known_behind c.args.manager.now.settings c.args.steps.now c.args.manager.now.history c.args.fresh.now.history) c.requires.moment c.args.manager.now.settings.peers))
+    (moments_of COMPACTOR c.args.moment (known_behind c.args.manager.now.settings c.args.manager.now.history c.args.fresh.now.history) c.requires.moment c.args.manager.now.settings.peers))
 
 pub returns-in-Ok-clause-compacted : goal.returns-in-Ok-clause-compacted
-returns-in-Ok-clause-compacted c = λ all is.
+returns-in-Ok-clause-compacted c = λ is.
     ap past (c.in-Ok.ensures.entered ∙ ap (λ (es : List (Entry _)). c.args.fresh.now.history ++ es) c.in_ok-entries.ensures.entries)
-    ∙ past_compacted c.args.manager.now.settings c.args.manager.now.history c.args.steps.now c.args.fresh.now.history all is COMPACTOR c.args.moment
+    ∙ past_compacted c.args.manager.now.settings c.args.manager.now.history c.args.fresh.now.history c.entries-count.ensures.legal is COMPACTOR c.args.moment

@@ -12,9 +12,9 @@ returns-in-Err-clause-performed g c =
 
 pub returns-in-Ok-clause-performed : goal.returns-in-Ok-clause-performed
 returns-in-Ok-clause-performed g c =
-    let after = g.P.Party.view c.carry_out.new.party in
+    let after = g.P.Party.view c.apply_effect.new.party in
     let reaction = reaction_with g.P.Party.call_view (g.P.Party.view c.react.new.self) c.in-Ok.effect in
-    performed_settled (g.P.Party.side (g.P.Party.setup c.args.party.now)) (g.P.Party.view c.args.party.now) after (indication_of c.args.indication.now) reaction _ _ c.carry_out.result
+    performed_settled (g.P.Party.side (g.P.Party.setup c.args.party.now)) (g.P.Party.view c.args.party.now) after (indication_of c.args.indication.now) reaction _ _ c.apply_effect.result
     c.in-Ok.ensures.reacts
-    (subst (λ (s : g.P.Party.Setup). IsSettled (g.P.Party.side s) reaction after (g.E.Environment.world c.args.environment.now) (g.E.Environment.world c.carry_out.new.environment) c.carry_out.result)
-    c.in-Ok.ensures.setup c.carry_out.ensures.settled)
+    (subst (λ (s : g.P.Party.Setup). IsSettled (g.P.Party.side s) reaction after (g.E.Environment.world c.args.environment.now) (g.E.Environment.world c.apply_effect.new.environment) c.apply_effect.result)
+    c.in-Ok.ensures.setup c.apply_effect.ensures.settled)

@@ -1,9 +1,11 @@
 use Rattle.std.proofs.Common.{◌≡◌, ℕ, ◌≤◌, ◌-◌, ◌/◌, length, map, sym, subst, ap, ◌∙◌, arith}
 use Rattle.std.proofs.lemmas.Bool.{ltb-true}
 use Rattle.sqlite_trees.specs.View.{View, IsClean}
+use Rattle.ups_life.specs.Settings.{Settings}
 use Rattle.ups_life.specs.Steps.{past}
 use Rattle.ups_journal.specs.Columns.{recorded}
-use Rattle.ups_compact.specs.Compacting.{compacted}
+use Rattle.ups_service.specs.Law.{is_legal}
+use Rattle.ups_compact.specs.Compacting.{left_for, steps_needed, compacted_for}
 use Rattle.ups_restore.specs.declared.acknowledging.TheConstants.{COMPACTOR}
 use Rattle.ups_store.specs.Rows.{requests_in}
 use Rattle.ups_store.specs.Shown.{shown_by, all_of}
@@ -19,5 +21,8 @@ returns-in-Ok-clause-compacted g c = λ clean.
     let same : all_of read ≡ all_of first = c.in_ok-carry_all.ensures.same clean ∙ ap (λ (v : View). requests_in v.committed) c.again.ensures.same in
     let are : map recorded manager.history ≡ said (all_of read) = sym (c.requires.whole before) ∙ sym (ap said same) in
     let few : length c.carry_all.new.fresh.history ≤ c.entries-all.result / 2 = omega (arith, ltb-true c.entries.result (c.entries-all.result - c.entries.result) (sym c.pays.ensures ∙ c.if-not-pays.false), c.entries.ensures.count, c.entries-all.ensures.count) in
-    c.in-Ok.ensures.compacted c.in_ok-steps.ensures (c.in_ok-carry_all.ensures.carried clean manager.history c.requires.written are few)
-    ∙ ap (λ (m : ℕ). compacted COMPACTOR m manager.settings (past manager.history)) c.moment_of.ensures.is
+    let same_settings : c.in_ok-fresh.fresh.settings ≡ manager.settings = c.in_ok-fresh.ensures.settings in
+    let kept : past c.carry_all.new.fresh.history ≡ left_for manager.settings (steps_needed manager.settings (past manager.history)) (past manager.history) =
+    c.in_ok-carry_all.ensures.carried clean manager.history c.requires.written are (subst (λ (x : Settings). is_legal x manager.history) (sym same_settings) c.entries-all.ensures.legal) few
+    ∙ (λ i. left_for (same_settings i) (c.in_ok-steps.ensures i) (past manager.history)) in
+    c.in-Ok.ensures.compacted kept ∙ ap (λ (m : ℕ). compacted_for COMPACTOR m manager.settings (steps_needed manager.settings (past manager.history)) (past manager.history)) c.moment_of.ensures.is

@@ -16,4 +16,4 @@ returns-clause-effect g c = record {
 }
 
 pub returns-clause-fits : goal.returns-clause-fits
-returns-clause-fits g c = fits_same c.args.tables.now _ c.requires.fits refl refl c.ack.ensures.peers c.peers.ensures.width (λ p u. refl) (λ u. refl) refl
+returns-clause-fits g c = fits_same c.args.tables.now _ c.requires.fits refl refl c.ack.ensures.peers c.learn.ensures (λ p u. refl) (λ u. refl) refl

@@ -12,7 +12,7 @@ use Rattle.ups_tables.proofs.acting.change.Goals as goal
 pub returns-clause-fits : goal.returns-clause-fits
 returns-clause-fits g c =
     let hs : List (List ℕ × HeldRow g.row.A.Denot) = c.args.tables.now.steps.entries in
-    fits_settled c.args.tables.now _ c.args.step c.requires.fits (c.tell_each-2.ensures.peers ∙ c.tell_each.ensures.peers ∙ c.requires.fits.queues ∙ sym (ap length c.subscribe_each.ensures.covers)) c.peers.ensures.width
+    fits_settled c.args.tables.now _ c.args.step c.requires.fits (c.tell_each-2.ensures.peers ∙ c.tell_each.ensures.peers ∙ c.requires.fits.queues ∙ sym (ap length c.subscribe_each.ensures.covers)) c.learn.ensures
     (λ p u e. c.subscribe_each.ensures.watching p u ∙ ap (λ b. cond b (option_or (get_or c.args.newly.now p None) (how c.args.tables.now p u)) (how c.args.tables.now p u)) e)
     c.subscribe_each.ensures.known
     (λ u. ap (λ (xs : List (List ℕ × HeldRow g.row.A.Denot)). is_some (held_at u xs)) c.put.ensures.entries ∙ put_holds c.args.step u c.args.held hs c.requires.here)

@@ -32,4 +32,4 @@ pub returns-clause-fits : goal.returns-clause-fits
 returns-clause-fits g c =
     fits_created c.args.tables.now _ c.args.step c.args.held c.requires.fits c.requires.fresh c.requires.unfinished c.push.ensures.entries
     (λ p u e. c.created.ensures.watching p u ∙ ap (λ b. cond b (covering c.args.tables.now.watchers p c.args.held.row.attributes) (watching c.args.tables.now.watchers p u)) e)
-    c.created.ensures.known (c.tell_each.ensures.peers ∙ c.requires.fits.queues ∙ sym (ap length c.created.ensures.covers)) c.peers.ensures.width refl
+    c.created.ensures.known (c.tell_each.ensures.peers ∙ c.requires.fits.queues ∙ sym (ap length c.created.ensures.covers)) c.learn.ensures refl

@@ -23,6 +23,6 @@ returns-clause-effect g c = record {
 pub returns-clause-fits : goal.returns-clause-fits
 returns-clause-fits g c =
     fits_many c.args.tables.now _ c.requires.fits c.args.peer None (λ u. true) c.args.freed.now c.requires.freed c.requires.peer refl
-    (c.requires.fits.queues ∙ sym (ap length c.unsubscribe.ensures.covers ∙ length-set c.args.tables.now.watchers.covers c.args.peer None)) c.peers.ensures.width c.unsubscribe.ensures.watching
+    (c.requires.fits.queues ∙ sym (ap length c.unsubscribe.ensures.covers ∙ length-set c.args.tables.now.watchers.covers c.args.peer None)) c.learn.ensures c.unsubscribe.ensures.watching
     (λ u out p. c.unsubscribe.ensures.watching p u ∙ ap (cond (eqb c.args.peer p && true) None) (nobody c.args.tables.now c.requires.fits u out p) ∙ same_none (eqb c.args.peer p && true) None)
     c.unsubscribe.ensures.known c.settle_many.ensures.once c.settle_many.ensures.waits

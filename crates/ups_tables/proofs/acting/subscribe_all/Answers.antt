@@ -12,6 +12,6 @@ settle_many-requires-clause-unlocked g c = λ free. kept_before c.args.tables.no
 pub returns-clause-fits : goal.returns-clause-fits
 returns-clause-fits g c =
     fits_many c.args.tables.now _ c.requires.fits c.args.peer (Some c.args.cover.subscription) (λ u. is_among u c.args.chosen.now) c.args.freed.now c.requires.freed c.requires.peer refl
-    (c.tell.ensures.peers ∙ c.requires.fits.queues ∙ sym (ap length c.global.ensures.covers ∙ length-set c.args.tables.now.watchers.covers c.args.peer (Some c.args.cover))) c.peers.ensures.width c.global.ensures.watching
+    (c.tell.ensures.peers ∙ c.requires.fits.queues ∙ sym (ap length c.global.ensures.covers ∙ length-set c.args.tables.now.watchers.covers c.args.peer (Some c.args.cover))) c.learn.ensures c.global.ensures.watching
     (λ u out p. c.global.ensures.watching p u ∙ stays_none c.args.tables.now c.requires.fits u out (λ v. is_among v c.args.chosen.now) c.requires.here c.args.peer p (Some c.args.cover.subscription))
     c.global.ensures.known c.settle_many.ensures.once c.settle_many.ensures.waits

@@ -7,7 +7,7 @@ use Rattle.ups_tables.proofs.acting.subscribe_single.Goals as goal
 
 pub returns-clause-fits : goal.returns-clause-fits
 returns-clause-fits g c =
-    fits_settled c.args.tables.now _ c.args.step c.requires.fits (c.tell.ensures.peers ∙ c.requires.fits.queues ∙ sym (ap length c.subscribe.ensures.covers)) c.peers.ensures.width
+    fits_settled c.args.tables.now _ c.args.step c.requires.fits (c.tell.ensures.peers ∙ c.requires.fits.queues ∙ sym (ap length c.subscribe.ensures.covers)) c.learn.ensures
     (λ p u e. c.subscribe.ensures.watching p u ∙ not_at (eqb c.args.peer p) (bytes_eq c.args.step u) (Some c.args.subscription) (how c.args.tables.now p u) e)
     c.subscribe.ensures.known (λ u. refl) (λ u e. refl) c.settle.ensures.once
     (λ u. c.settle.ensures.waits u

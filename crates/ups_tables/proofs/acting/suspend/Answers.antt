@@ -14,4 +14,4 @@ returns-clause-effect g c = record {
 
 pub returns-clause-fits : goal.returns-clause-fits
 returns-clause-fits g c =
-    fits_same c.args.tables.now _ c.requires.fits refl (ap length c.suspend.ensures.covers ∙ length-set c.args.tables.now.watchers.covers c.args.peer None) refl c.peers.ensures.width c.suspend.ensures.watching c.suspend.ensures.known refl
+    fits_same c.args.tables.now _ c.requires.fits refl (ap length c.suspend.ensures.covers ∙ length-set c.args.tables.now.watchers.covers c.args.peer None) refl c.learn.ensures c.suspend.ensures.watching c.suspend.ensures.known refl

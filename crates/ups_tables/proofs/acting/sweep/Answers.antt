@@ -14,4 +14,4 @@ returns-clause-effect g c = record {
 pub returns-clause-fits : goal.returns-clause-fits
 returns-clause-fits g c =
     fits_swept c.args.tables.now _ c.requires.fits c.args.due.now c.args.moment c.requires.due c.remove.ensures.entries
-    c.forget.ensures.watching c.forget.ensures.known (c.requires.fits.queues ∙ sym (ap length c.forget.ensures.covers)) c.peers.ensures.width c.sweep.ensures.steps
+    c.forget.ensures.watching c.forget.ensures.known (c.requires.fits.queues ∙ sym (ap length c.forget.ensures.covers)) c.learn.ensures c.sweep.ensures.steps

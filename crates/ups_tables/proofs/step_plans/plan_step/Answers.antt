@@ -1,28 +1,33 @@
-use Rattle.std.proofs.Common.{ap, ◌∙◌, ◌∷◌, []}
+use Rattle.std.proofs.Common.{◌≡◌, refl, ap, ◌∙◌, ◌∷◌, []}
+use Rattle.std.specs.Option.{unwrap_or}
 use Rattle.ups_life.specs.declared.event.Report.{Report}
-use Rattle.ups_life.specs.Steps.{past}
+use Rattle.ups_life.specs.Steps.{past, nothing}
+use Rattle.ups_tables.specs.Held.{held_at}
 use Rattle.ups_tables.specs.Keyed.{row_held}
-use Rattle.ups_tables.proofs.Planned.{Fresh, plans_create, plans_change, plans_set, set_found}
+use Rattle.ups_tables.specs.Live.{report_now}
+use Rattle.ups_tables.proofs.Planned.{Fresh, created_news, plans_create, plans_change, plans_set, set_found}
 use Rattle.ups_tables.proofs.step_plans.plan_step.Goals as goal
 
 pub returns-in-Create : goal.returns-in-Create
 returns-in-Create g c =
     let f : Fresh c.args.configuration.now (past c.args.history.now.entries) c.args.entry.now c.args.tables.now c.args.step c.args.held = record { named = c.requires.step; allowed = c.requires.allowed; row = c.requires.row; holder = c.requires.holder } in
-    plans_create c.args.configuration.now c.args.history.now.entries c.args.entry.now c.args.tables.now c.args.step c.args.held c.requires.stands f _ c.in_ok-told.told.items _ _
-    (c.row_of-before.ensures ∙ ap row_held c.get-found.ensures) c.in_ok-told.ensures c.in-Create.is
+    let before = unwrap_or (row_held (held_at c.args.step c.args.tables.now.steps.entries)) nothing in
+    let told : c.in_ok-created.created.items ≡ report_now c.args.step c.args.held.row ∷ [] = c.in_ok-created.ensures ∙ ap (λ (r : Report). r ∷ []) c.report_now.ensures in
+    plans_create c.args.configuration.now c.args.history.now.entries c.args.entry.now c.args.tables.now c.args.step c.args.held c.requires.stands f _ c.in_ok-created.created.items _ _
+    refl (told ∙ created_news c.args.step before c.args.held.row c.args.entry.now.request _ _ c.in-Create.is) c.in-Create.is
 
-pub returns-in_default : goal.returns-in_default
-returns-in_default g c =
+pub returns-in_default-request : goal.returns-in_default-request
+returns-in_default-request g c =
     let f : Fresh c.args.configuration.now (past c.args.history.now.entries) c.args.entry.now c.args.tables.now c.args.step c.args.held = record { named = c.requires.step; allowed = c.requires.allowed; row = c.requires.row; holder = c.requires.holder } in
     plans_change c.args.configuration.now c.args.history.now.entries c.args.entry.now c.args.tables.now c.args.step c.args.held c.requires.stands f _ c.in_ok-told.told.items
-    (c.row_of-before.ensures ∙ ap row_held c.get-found.ensures) c.in_ok-told.ensures c.in_default.not-Create c.in_default.not-Set
+    (c.row_of-before.ensures ∙ ap row_held c.get-found.ensures) c.in_ok-told.ensures c.in_default.not-Create c.in_default-request.not-Set
 
 pub returns-in_ok-first-in-Set : goal.returns-in_ok-first-in-Set
 returns-in_ok-first-in-Set g c =
     let f : Fresh c.args.configuration.now (past c.args.history.now.entries) c.args.entry.now c.args.tables.now c.args.step c.args.held = record { named = c.requires.step; allowed = c.requires.allowed; row = c.requires.row; holder = c.requires.holder } in
     plans_set c.args.configuration.now c.args.history.now.entries c.args.entry.now c.args.tables.now c.args.step c.args.held c.requires.stands f _ c.in_ok-told.told.items _ _ _ c.in_ok-newly-in-Set.newly.items c.in_ok-first-in-Set.first.items
     (c.row_of-before.ensures ∙ ap row_held c.get-found.ensures) c.in_ok-told.ensures c.in-Set.is
-    c.in_ok-newly-in-Set.ensures.width c.in_ok-newly-in-Set.ensures.newly (c.in_ok-first-in-Set.ensures ∙ ap (λ (r : Report). r ∷ []) c.report_now.ensures)
+    c.in_ok-newly-in-Set.ensures.width c.in_ok-newly-in-Set.ensures.newly (c.in_ok-first-in-Set.ensures ∙ ap (λ (r : Report). r ∷ []) c.report_now-in-Set.ensures)
 
 pub newly_of-requires : goal.newly_of-requires
 newly_of-requires g c =

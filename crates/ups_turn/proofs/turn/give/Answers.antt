@@ -9,8 +9,8 @@ exchange-requires g c =
     let holds = c.requires.may.holds in
     (c.requires.table.0, (None, holds ∙ ap (λ (r : List (ℕ × Option (State g.row.A.Denot))). (0, None) ∷ r) (sym (ap rest holds))))
 
-pub decide-requires-clause-may : goal.decide-requires-clause-may
-decide-requires-clause-may g c = may_decide _ _ c.args.manager c.args.count c.requires.may c.exchange.ensures.3
+pub count_entered-requires-clause-may : goal.count_entered-requires-clause-may
+count_entered-requires-clause-may g c = may_decide _ _ c.args.manager c.args.count c.requires.may c.exchange.ensures.3
 
 pub serve-served-requires-clause-may : goal.serve-served-requires-clause-may
-serve-served-requires-clause-may g c = may_serve _ _ _ c.args.manager c.args.count c.requires.may c.exchange.ensures.3 c.decide.ensures.decided
+serve-served-requires-clause-may g c = may_serve _ _ _ c.args.manager c.args.count c.requires.may c.exchange.ensures.3 c.count_entered.ensures.decided

@@ -5,7 +5,7 @@ use Rattle.ups_assoc.specs.Cutting.{pieces}
 use Rattle.ups_session.specs.Party.{said_by, awaited_by}
 use Rattle.ups_session.specs.World.{SendsAlone}
 use Rattle.ups_session.proofs.Settling.{settled_effect}
-use Rattle.ups_session.proofs.driver.carry_out.Goals as goal
+use Rattle.ups_session.proofs.driver.apply_effect.Goals as goal
 
 ready : {T E : Type 0} (r : Result T E) (P : Type 0) → P → OnOk r P
 ready (Ok x) P p = p

@@ -1,6 +1,6 @@
 use Rattle.std.proofs.Common.{◌<◌, length, ap, subst, ◌∙◌}
 use Rattle.ups_restore.proofs.Pending.{all_pending}
-use Rattle.ups_restore.proofs.acknowledging.pending_of.Goals as goal
+use Rattle.ups_restore.proofs.needed.pending_of.Goals as goal
 
 pub returns-in-Reports-clause-events : goal.returns-in-Reports-clause-events
 returns-in-Reports-clause-events c =

@@ -8,7 +8,7 @@ use Rattle.ups_life.proofs.Verdicts.{done_is_success, verdict_grants_all}
 use Rattle.ups_tables.specs.Fit.{uses}
 use Rattle.ups_manager.specs.declared.submitting.SubmitFault.TheVariants.{Refused}
 use Rattle.ups_manager.proofs.Entering.{repeats_is}
-use Rattle.ups_manager.proofs.submitting.decide.Goals as goal
+use Rattle.ups_manager.proofs.submitting.check_allowed.Goals as goal
 
 pub returns-then-is_done-clause-allowed : goal.returns-then-is_done-clause-allowed
 returns-then-is_done-clause-allowed g c =

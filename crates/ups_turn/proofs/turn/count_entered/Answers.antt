@@ -2,7 +2,7 @@ use Rattle.std.proofs.Common.{arith}
 use Rattle.atomic_table.specs.Table.{step}
 use mathlib.Core.Option.{none}
 use Rattle.ups_turn.proofs.Steps.{decide_allowed}
-use Rattle.ups_turn.proofs.turn.decide.Goals as goal
+use Rattle.ups_turn.proofs.turn.count_entered.Goals as goal
 
 pub fetch_add-requires : goal.fetch_add-requires
 fetch_add-requires g c =

@@ -1,0 +1,16 @@
+use Rattle.std.proofs.Common.{ap, ◌∙◌}
+use Rattle.ups_events.specs.Telling.{Line}
+use Rattle.ups_manager.proofs.Keyed.{queue_fits}
+use Rattle.ups_manager.proofs.Watches.{queue_is}
+use Rattle.ups_manager.proofs.manager.Manager.events_made.Goals as goal
+
+pub made_at-requires : goal.made_at-requires
+made_at-requires g c =
+    let m = c.self.inside in
+    queue_fits m.configuration m.history.entries m.tables c.peers.result.now c.args.ae c.place_of-place.result c.self.invariant.0.tables c.peers.ensures c.place_of-place.ensures
+
+pub returns : goal.returns
+returns g c =
+    let m = c.self.inside in
+    rw (← c.self.view_is) (c.made_at.ensures
+    ∙ ap (λ (k : Line). k.made) (queue_is m.configuration m.history.entries m.tables c.peers.result.now c.place_of-place.result c.args.ae c.self.invariant.0.tables c.peers.ensures c.place_of-place.ensures))
