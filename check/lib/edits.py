@@ -242,9 +242,22 @@ class Trial:
         return self.results
 
 
+def libraries_in_place(rt: Any, root: str, names: set[str]) -> dict[str, Any]:
+    """Returns the crates by name. The libraries below those named are as the last run proved them in this checkout: this is for
+    a kit that keeps none elsewhere (13b)."""
+    rt.rtlib.Crate = rt.Crate
+    crates = {it.name: it for it in rt.rtlib.crates_below(root)}
+    lost = sorted({below.name for name in names for below in crates[name].below() if not os.path.isdir(below.rlib)})
+    if lost:
+        sys.exit(f"edits.py: not proved in this checkout: {', '.join(lost)}: run `rt ci` first")
+    return crates
+
+
 def libraries(rt: Any, root: str, to: str, names: set[str]) -> dict[str, Any]:
     """Copies the crates to a folder, with the libraries below those named as they were proved, and returns the crates by name."""
     rt.Crate.allowed = rt.handles_of(root)
+    if not hasattr(rt, "Kept"):
+        return libraries_in_place(rt, root, names)
     here = {it.name: it for it in rt.crates_of(root)}
     rt.copy_crates(root, to)
     os.mkdir(f"{to}/.git")
