@@ -54,7 +54,7 @@ CONSTANTS = {
     "max_workers": ("ups_peers", "MAX_WORKERS"), "workers": ("ups_peers", "WORKERS"),
     "idle": ("ups_peers", "IDLE"), "timeout": ("ups_peers", "TIMEOUT"), "delivery_timeout": ("ups_peers", "DELIVERY_TIMEOUT"),
     "version": ("ups_args", "VERSION"), "address": ("ups_args", "LOOPBACK"),
-    "short": ("ups_net", "QUICK_OPENING"), "crowd": ("ups_net", "CROWD"), "group": ("ups_ledger", "MOST"),
+    "short": ("ups_transport", "QUICK_OPENING"), "crowd": ("ups_net", "CROWD"), "group": ("ups_ledger", "MOST"),
     "longest_pdu": ("ups_pdu", "MAX_DATA_LENGTH"), "longest_message": ("ups_assoc", "LONGEST_MESSAGE"),
     "max_depth": ("ups_dataset", "MAX_DEPTH"), "max_row_bytes": ("ups_life", "MAX_ROW_BYTES"),
     "max_history": ("ups_life", "MAX_HISTORY"), "max_peers": ("ups_life", "MAX_PEERS"),

@@ -1,14 +1,11 @@
 #!/usr/bin/env python3
 """Checks that the rooms of crates.txt are layers: each crate uses only crates of its own room and of the rooms before it.
 
-    check/rooms.py              reads crates.txt, from the top of the checkout, docs/work/architecture.md and some crates
-    check/rooms.py --self-test  moves crates, rooms and modules, and checks that it is found
+    check/rooms.py              reads crates.txt, from the top of the checkout, docs/work/architecture.md and the names of crates
+    check/rooms.py --self-test  moves crates and rooms, and checks that it is found
 
 A room is a comment `# NAME: what it has`, and the crates behind it. Each room stands there once, each crate of crates/ in one
 room, behind all crates that it uses; and the page has a section for each room, in the same order, which names its crates.
-
-The folders of a crate of LAYERS are layers, too: a module uses those of its own folder, those of the folders before it, and
-those beside the folders, which use none of a folder. The page names these folders where it names the crate, in the same order.
 
 It prints what is wrong, and then how many rooms and crates there are. The status is 1 if anything is wrong.
 """
@@ -25,11 +22,7 @@ ROOM = re.compile(r"# ([a-z ]+): \S.*")
 CRATE = re.compile(r"(\w+):((?: \w+)*)")
 SECTION = re.compile(r"### ([a-z ]+): .*")
 
-# the folders of modules of a crate, the lowest one first
-LAYERS = {"ups_net": ["transport", "threads"]}
-
 Crates = dict[str, list[str]]  # what each crate uses
-Modules = dict[str, str]  # the text of each module of a crate, by its path in src
 
 
 def rooms_in(text: str) -> tuple[list[tuple[str, Crates]], list[str]]:
@@ -88,61 +81,6 @@ def faults_of_page(rooms: list[tuple[str, Crates]], page: str) -> list[str]:
     return wrong
 
 
-def used_in(crate: str, text: str) -> list[str]:
-    """Returns the names at the root of a crate that one of its modules uses, in code or in what contracts cite."""
-    used = re.findall(r"\bcrate::(\w+|\W)", text)
-    return used + re.findall(rf"\bRattle\.{crate}\.(?:proofs|specs\.declared|specs\.contracts)\.([a-z]\w*)", text)
-
-
-def faults_of_layers(crate: str, layers: list[str], modules: Modules) -> list[str]:
-    """Returns which modules of a crate use one above them, and which folders are no layers."""
-    tops = {path: re.split("[/.]", path)[0] for path in modules if path != "lib.rt"}
-    level = {top: layers.index(top) + 1 if top in layers else 0 for top in tops.values()}
-    folders = {top for path, top in tops.items() if "/" in path}
-    wrong = [f"{crate} has a folder {it} that is no layer" for it in sorted(folders - set(layers))]
-    wrong += [f"{crate} has no folder {it}" for it in layers if it not in folders]
-    for path, top in tops.items():
-        for used in used_in(crate, modules[path]):
-            if used not in level:
-                wrong.append(f"{path} of {crate} uses {used}, which is neither a folder nor a module beside them")
-            elif level[used] > level[top]:
-                wrong.append(f"{path} of {crate} uses {used}, a layer above")
-    return wrong
-
-
-def faults_of_line(crate: str, layers: list[str], page: str) -> list[str]:
-    """Returns whether the page names other folders of a crate than its layers, or in another order."""
-    lines = [line for line in page.splitlines() if line.startswith(f"- `{crate}`: ")]
-    named = [it for line in lines for it in re.findall(r"`(\w+)`", line) if it in layers]
-    return [] if named == layers else [f"architecture.md has the folders {', '.join(named) or 'none'} of {crate}"]
-
-
-def modules_of(crate: str) -> Modules:
-    """Returns the text of each module of a crate."""
-    top = os.path.join(HERE, "crates", crate, "src")
-    paths = [os.path.relpath(os.path.join(at, name), top) for at, _, names in os.walk(top) for name in names]
-    return {path: read(f"crates/{crate}/src/{path}") for path in sorted(paths)}
-
-
-def self_test_layers(page: str) -> list[str]:
-    """Returns the spoiled crates, and the spoiled page, in which nothing is found."""
-    crate, layers = "ups_net", LAYERS["ups_net"]
-    modules = modules_of(crate)
-    low, high = (next(path for path in modules if path.startswith(f"{it}/")) for it in (layers[0], layers[-1]))
-    spoiled = {
-        "a module that uses a folder above": {**modules, low: modules[low] + f"use crate::{layers[1]}::wire::Wire;\n"},
-        "a contract that cites one": {**modules, low: modules[low] + f"ghost use Rattle.{crate}.specs.declared.{layers[1]}.wire.Wire;\n"},
-        "a module beside that uses a folder": {**modules, "clock.rt": modules["clock.rt"] + f"use crate::{layers[0]}::tally::Tally;\n"},
-        "a module that uses the root": {**modules, high: modules[high] + "use crate::Door;\n"},
-        "a module that uses a group": {**modules, low: modules[low] + "use crate::{threads, transport};\n"},
-        "a folder that is no layer": {**modules, "other/wire.rt": ""},
-        "a layer without a folder": {path: it for path, it in modules.items() if not path.startswith(f"{layers[0]}/")},
-    }
-    missed = [name for name, it in spoiled.items() if not faults_of_layers(crate, layers, it)]
-    pages = {"a page without a folder": page.replace(f"`{layers[0]}`", "it"), "a page without the crate": page.replace(f"- `{crate}`: ", "- ")}
-    return missed + [name for name, it in pages.items() if not faults_of_line(crate, layers, it)]
-
-
 def self_test(text: str, page: str, folders: list[str]) -> list[str]:
     """Returns the spoiled texts in which nothing is found."""
     lines = text.splitlines()
@@ -169,15 +107,13 @@ def read(path: str) -> str:
 def main() -> None:
     about, _, more = (__doc__ or "").partition("\n\n")
     asked = argparse.ArgumentParser(description=about, epilog=more, formatter_class=argparse.RawDescriptionHelpFormatter)
-    asked.add_argument("--self-test", action="store_true", help="spoil the rooms and the layers, and see that it is found")
+    asked.add_argument("--self-test", action="store_true", help="spoil the rooms, and see that it is found")
     text, page, folders = read("crates.txt"), read("docs/work/architecture.md"), sorted(os.listdir(os.path.join(HERE, "crates")))
     if asked.parse_args().self_test:
-        missed = self_test(text, page, folders) + self_test_layers(page)
-        print("\n".join(f"not found: {it}" for it in missed) or "9 spoiled rooms and 9 spoiled layers, each found")
+        missed = self_test(text, page, folders)
+        print("\n".join(f"not found: {it}" for it in missed) or "9 spoiled rooms, each found")
         sys.exit(bool(missed))
     wrong = faults_of(text, page, folders)
-    for crate, layers in LAYERS.items():
-        wrong += faults_of_layers(crate, layers, modules_of(crate)) + faults_of_line(crate, layers, page)
     rooms, _ = rooms_in(text)
     for it in wrong:
         print(it)

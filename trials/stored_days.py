@@ -291,8 +291,7 @@ def by_command(program: list[str], file: str, folder: str, day: Day, rows: list[
     results.tell(f"upsd compact: {after} requests are left of {before}, and behind another one {again}",
                  None if before == len(rows) and after < before and again <= after else f"there were {len(rows)}")
     tell_same("upsd compact", plain, picture_of(program, copy, day), results)
-    free = used_again(program, copy, [uid for uid in day.uids if plain.got[uid] is None][:50])
-    print(f"    of 50 UIDs of removed steps {free} are free behind a compaction", flush=True)
+    tell_used("upsd compact", program, copy, plain, day, results)
 
 
 def fault_of_history(program: list[str], folder: str, given: argparse.Namespace, seed: int) -> Optional[str]:
@@ -305,6 +304,7 @@ def fault_of_history(program: list[str], folder: str, given: argparse.Namespace,
         if come.status != 0:
             return f"history {seed}: upsd compact ends with {come.status}: {come.said[-200:]!r}"
         tell_same(f"history {seed}", plain, picture_of(program, copy, day), results)
+        tell_used(f"history {seed}", program, copy, plain, day, results)
     except FAULTS as fault:
         return f"history {seed}: {fault!r}"
     return f"history {seed}: {results.failed} things differ" if results.failed else None
@@ -319,10 +319,13 @@ def run_histories(program: list[str], given: argparse.Namespace, results: Result
     results.tell(f"{given.histories} histories of {given.requests} requests show the same behind upsd compact", "; ".join(faults[:5]) or None)
 
 
-def used_again(program: list[str], file: str, uids: list[bytes]) -> int:
+def tell_used(name: str, program: list[str], file: str, plain: Picture, day: Day, results: Results) -> None:
+    """Tells whether the UIDs of removed steps stay used: a server creates no step under them."""
+    removed = [uid for uid in day.uids if plain.got[uid] is None]
     with Stored(program, file, "--keep", str(KEEP), *peers_of(None)) as server:
         client = Client(server.port)
-        return sum(client.create(uid, a_step_of(b"P")) == 0x0000 for uid in uids)
+        free = [uid for uid in removed if client.create(uid, a_step_of(b"P")) != 0x0111]
+    results.tell(f"{name}: the UIDs of {len(removed)} removed steps stay used", f"{len(free)} are free: {free[:3]}" if free else None)
 
 
 def cut_off(program: list[str], file: str, folder: str, given: argparse.Namespace, rows: list[Row], results: Results) -> None:
@@ -342,7 +345,7 @@ def cut_off(program: list[str], file: str, folder: str, given: argparse.Namespac
             longest, least = time.monotonic() - began, len(now)
         done += len(now) < len(rows)
         kept = {it[1:] for it in rows}
-        strangers = [it for it in now if it[1:] not in kept and it[OPERATION] != "acknowledge"]
+        strangers = [it for it in now if it[1:] not in kept and it[OPERATION] not in ("acknowledge", "reserve")]
         if now != rows and (strangers or len(now) >= len(rows) or number and len(now) != least):
             faults.append(f"there are {len(now)} requests of {len(rows)}, and {len(strangers)} others")
     results.tell(f"20 compactions that are killed, {done} of which were done", "; ".join(faults[:2]) or None)
@@ -366,6 +369,7 @@ def at_a_start(program: list[str], file: str, folder: str, day: Day, count: int,
     told_of = [line for line in picture.log if "compact" in line]
     results.tell("a start that compacts: the log tells of it", None if told_of else f"{picture.log[:5]}")
     tell_same("a start that compacts", plain, picture, results)
+    tell_used("a start that compacts", program, file, plain, day, results)
 
 
 # a million requests

@@ -31,7 +31,7 @@ while a watcher is 400 reports of progress behind. The following has to hold:
     worklist   a C-FIND finds the steps that are held, as they are, and no other
     log        it has no error, tells of no lack of memory, and that AWAY was away and is back
     restart    with --store the server is killed in the end, and started on its store as it is, and then with --compact: the worklist
-               is the same, the UIDs stay used until the compaction, and it takes no more memory than before it was killed
+               is the same, the UIDs stay used, and it takes no more memory than before it was killed
 
 It ends by itself; 3,000,000 requests take some minutes. It prints a line for each tenth of the way and for each check, and then
 `years: N passed, M failed`. The status is 1 if any failed.
@@ -546,8 +546,7 @@ def restart(words: list[str], counts: Counts, most: int, results: Results) -> No
             fault = None if memory <= most else f"{most / 1e6:,.1f} MB at most are due"
             results.tell(f"{name}: {server.took:.1f} s, {memory / 1e6:,.1f} MB", fault)
             judge_worklist(client, counts, results)
-            if not option:
-                judge_uids(client, counts, results)
+            judge_uids(client, counts, results)
             client.release()
             server.process.kill()
 

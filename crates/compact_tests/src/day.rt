@@ -1,20 +1,20 @@
 use fixtures::rows::{check_same, cut_twice, number};
-use fixtures::title;
 use fixtures::words::message_of;
+use fixtures::{title, uid};
 use std::alloc::{Allocator, Global};
 use std::fmt::Write;
 use std::str;
 use std::test::Fail;
-use ups_compact::{KeptSteps, known_up_to, pays, reports_known_up_to};
+use ups_compact::{KeptSteps, known_up_to, pays, reports_known_up_to, reservation};
 use ups_life::{
     Ask, Entry, Event, EventKind, EventReport, EventReports, MAX_MOMENT, MAX_PEERS, Peer, Reply,
-    Request, read_request,
+    Request, StepUid, read_request,
 };
 use ups_manager::*;
 use ups_pdu::Ae;
 
 /// A day, with a request in each line: who asks and when, in seconds, and what, as in `fixtures::words`; or an
-/// acknowledgement, or a sweep.
+/// acknowledgement, a sweep, or the reservation of a UID.
 ///
 /// Of three steps the first is claimed and goes on, the second is canceled and removed, and the third is new. The first
 /// watcher has acknowledged three of its events, the second all of its events, and the third has none.
@@ -42,6 +42,19 @@ CAD 30 1 1.2.3.1 00741000=IN_PROGRESS 00081195=2.1
 CAD 40 set 1.2.3.1 00741002=[00741004=50] 00081195=2.1
 RIS 150 create 1.2.3.3 B
 0 10 26 30 40 150 6 of 13";
+
+/// What remains of the entries that go: the moment of each reservation and the UID that it reserves.
+const RESERVED: &str = "20 1.2.3.2\n";
+
+/// What is left of the day, with the UID of the second step reserved where the step was created.
+const LEFT_RESERVED: &str = "\
+W1 0 3 global 00741234=W1 00741230=FALSE
+RIS 10 create 1.2.3.1 B
+RIS 20 reserve 1.2.3.2
+W2 26 3 1.2.3.1 00741234=W2 00741230=TRUE
+CAD 30 1 1.2.3.1 00741000=IN_PROGRESS 00081195=2.1
+CAD 40 set 1.2.3.1 00741002=[00741004=50] 00081195=2.1
+RIS 150 create 1.2.3.3 B";
 
 /// The peers; the first two may lock steps.
 const PEERS: [(&str, bool); 3] = [("W1", true), ("W2", true), ("W3", false)];
@@ -72,6 +85,10 @@ fn request_of<A: Allocator + Copy>(alloc: A, text: &str) -> Result<Request<A>, F
     if let Some(upto) = text.strip_prefix("ack ") {
         let upto = number(upto)?;
         return Ok(Request::Ack { upto });
+    }
+    if let Some(step) = text.strip_prefix("reserve ") {
+        let step = StepUid::of(uid(step)?).ok_or("the UID of a step")?;
+        return Ok(Request::Reserve { step });
     }
     let (operation, set) = message_of(alloc, text)?;
     match read_request(alloc, &operation, set, 0) {
@@ -195,6 +212,51 @@ fn check_left(manager: &mut Manager<Global>, alloc: Global) -> Result<(), Fail> 
 fn what_is_about_a_removed_step_goes(rt: HostRuntime) -> Result<(), Fail> {
     let mut manager = manager_of(rt.alloc())?;
     check_left(&mut manager, rt.alloc())
+}
+
+/// Returns the UID that a request reserves.
+fn reserved_uid<A: Allocator + Copy>(request: &Request<A>) -> Result<StepUid, Fail> {
+    match request {
+        Request::Reserve { step } => Ok(*step),
+        _ => Err("no reservation".into()),
+    }
+}
+
+/// Adds what remains of an entry, if anything does: the moment of the reservation and its UID.
+fn add_reserved(text: &mut String, entry: &Entry<Global>) -> Result<(), Fail> {
+    let Some(reserved) = reservation(entry) else {
+        return Ok(());
+    };
+    let step = reserved_uid(&reserved.request)?;
+    let uid = str::from_utf8(step.as_bytes()).ok().ok_or("a text")?;
+    writeln!(text, "{} {uid}", reserved.moment)?;
+    Ok(())
+}
+
+/// Returns what remains of the entries that go.
+fn reserved_by(alloc: Global, kept: &KeptSteps<Global>, lines: &str) -> Result<String, Fail> {
+    let mut reserved = String::new(alloc);
+    for line in lines.lines() {
+        let entry = entry_of(alloc, line)?;
+        if !kept.is_left(&entry.request) {
+            add_reserved(&mut reserved, &entry)?;
+        }
+    }
+    Ok(reserved)
+}
+
+/// Enters the day, and fails if what remains of the entries that go is wrong.
+fn check_reserved(manager: &mut Manager<Global>, alloc: Global) -> Result<(), Fail> {
+    enter_all(manager, DAY, alloc)?;
+    let kept = kept_by(manager, alloc)?;
+    let found = reserved_by(alloc, &kept, DAY)?;
+    check_same("reserved", found.as_str(), RESERVED)
+}
+
+#[test]
+fn of_a_creation_that_goes_the_reservation_of_its_uid_remains(rt: HostRuntime) -> Result<(), Fail> {
+    let mut manager = manager_of(rt.alloc())?;
+    check_reserved(&mut manager, rt.alloc())
 }
 
 /// Returns the first letter of the word for a kind.
@@ -413,6 +475,12 @@ fn created_after(alloc: Global, lines: &str) -> Result<u16, Fail> {
 fn the_uid_of_a_removed_step_is_free_again(rt: HostRuntime) -> Result<(), Fail> {
     assert_eq!(rt; created_after(rt.alloc(), DAY)?, 0x0111);
     assert_eq!(rt; created_after(rt.alloc(), left_lines()?)?, 0x0000);
+    Ok(())
+}
+
+#[test]
+fn a_reserved_uid_stays_used(rt: HostRuntime) -> Result<(), Fail> {
+    assert_eq!(rt; created_after(rt.alloc(), LEFT_RESERVED)?, 0x0111);
     Ok(())
 }
 

@@ -17,6 +17,7 @@ fn verb_of(request: &Request<Global>) -> &'static str {
         Request::Suspend { .. } => "suspend",
         Request::Ack { .. } => "ack",
         Request::Sweep => "sweep",
+        Request::Reserve { .. } => "reserve",
     }
 }
 

@@ -23,7 +23,7 @@ use std::process::ExitCode;
 use std::sync::Wait;
 use std::thread::Threads;
 use std::time::Clock;
-use ups_net::Network;
+use ups_transport::Network;
 
 /// Does what the words ask for, the first of which is the name of the program.
 ///

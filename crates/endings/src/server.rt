@@ -17,8 +17,8 @@ use ups_args::{ArgumentFault, command};
 use ups_ledger::Keeper;
 use ups_life::Entry;
 use ups_manager::Manager;
-use ups_net::Network;
 use ups_server::{ClosedServer, RanServer, serve_words};
+use ups_transport::Network;
 use ups_turn::Pass;
 
 /// Returns the error for refused words, or for lack of memory.

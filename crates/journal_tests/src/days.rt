@@ -61,6 +61,10 @@ pub(crate) fn request_of<A: Allocator + Copy>(
         let upto = number(digits)?;
         return Ok(Request::Ack { upto });
     }
+    if let Some(name) = words.strip_prefix("reserve ") {
+        let step = StepUid::of(uid(name)?).ok_or("the UID of a step")?;
+        return Ok(Request::Reserve { step });
+    }
     let (operation, set) = message_of(alloc, words)?;
     match read_request(alloc, &operation, set, offset) {
         Ok(Ask::Do(request)) => Ok(request),

@@ -12,7 +12,8 @@ const OPERATIONS: &str = "\
 6 unsubscribe
 7 suspend
 8 acknowledge
-9 sweep";
+9 sweep
+10 reserve";
 
 /// Returns whether a number and a name are those of one operation, which is displayed by its name.
 fn is_so(rt: &impl AllocGlobal, row: &str) -> Result<bool, Fail> {
@@ -46,13 +47,14 @@ sets
 changestate
 change
 cancel
-sweeps";
+sweeps
+reserved";
 
 #[test]
 fn no_other_number_and_no_other_name_is_one(_rt: HostRuntime) -> Result<(), Fail> {
-    for code in 10..=255_u8 {
+    for code in 11..=255_u8 {
         check(
-            "a number above 9",
+            "a number above 10",
             RecordedOperation::of_number(code).is_none(),
         )?;
     }

@@ -75,7 +75,10 @@ ack 18446744073709551615
 2 WATCH1 1709208120 acknowledge - - - - - 18446744073709551615 - | -
 # Steps are removed at the last moment there is
 sweep
-3 UPS_SERVER 253402250399 sweep - - - - - - - | -"#;
+3 UPS_SERVER 253402250399 sweep - - - - - - - | -
+# An instance UID is reserved
+reserve 1.2.3.1
+3 UPS_SERVER 1709208130 reserve 1.2.3.1 - - - - - - | -"#;
 
 /// Returns the entry of a request, with the caller, the title and the moment of a line.
 pub(crate) fn entry_of_words<A: Allocator + Copy>(

@@ -105,6 +105,21 @@ const SECTIONS: &str = r#"Who asks has a title, without spaces at its ends
 0 WATCH1 1709208120 acknowledge - - - WATCH1 - 1 - | - -> BadColumns
 0 WATCH1 1709208120 sweep - - - - - 1 - | - -> BadColumns
 0 WATCH1 1709208120 sweep - - - - - - - | -> BadColumns
+# A reservation has an instance, which is that of a step, and nothing else
+0 SCHED1 1709208130 reserve 1.2.3.1 - - - - - - | - -> read
+0 SCHED1 1709208130 reserve - - - - - - - | - -> BadColumns
+0 SCHED1 1709208130 reserve () - - - - - - | - -> BadInstance
+0 SCHED1 1709208130 reserve 1.2.3.01 - - - - - - | - -> BadInstance
+0 SCHED1 1709208130 reserve 1.2.3.1~ - - - - - - | - -> BadInstance
+0 SCHED1 1709208130 reserve 1.2.840.10008.5.1.4.34.5 - - - - - - | - -> BadInstance
+0 SCHED1 1709208130 reserve 1.2.840.10008.5.1.4.34.5.1 - - - - - - | - -> BadInstance
+0 SCHED1 1709208130 reserve 1.2.3.1 2.25.1 - - - - - | - -> BadColumns
+0 SCHED1 1709208130 reserve 1.2.3.1 - SCHEDULED - - - - | - -> BadColumns
+0 SCHED1 1709208130 reserve 1.2.3.1 - - WATCH1 - - - | - -> BadColumns
+0 SCHED1 1709208130 reserve 1.2.3.1 - - - false - - | - -> BadColumns
+0 SCHED1 1709208130 reserve 1.2.3.1 - - - - 1 - | - -> BadColumns
+0 SCHED1 1709208130 reserve 1.2.3.1 - - - - - 0 | - -> BadColumns
+0 SCHED1 1709208130 reserve 1.2.3.1 - - - - - - | -> BadColumns
 # A moment is any number: whether it has a date is asked where the record is restored
 0 WATCH1 18446744073709551615 sweep - - - - - - - | - -> read"#;
 

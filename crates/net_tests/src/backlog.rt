@@ -3,7 +3,7 @@
 use fixtures::rows::{check_same, cut};
 use std::net::SocketAddr;
 use std::test::Fail;
-use ups_net::waiting_at;
+use ups_transport::waiting_at;
 
 /// Sockets for TCP over IPv4, as a system listed them on 2026-11-26, with three connections that wait at port 11112 of
 /// 127.0.0.1, and none at port 11114 of any address.

@@ -1,13 +1,9 @@
-//! Tests of desks and of sessions that share one, of a connection that cannot be sent to, and of the number of
-//! connections that wait. What a server does on sockets, and what threads that share a manager leave, is seen from
-//! outside: by `check/sharing.py` and others, and by the program `passes`.
+//! Tests of a connection that cannot be sent to, and of the number of connections that wait. What a server does on
+//! sockets, and what threads that share a manager leave, is seen from outside: by `check/sharing.py` and others, and by
+//! the program `passes`.
 #![tactic(auto)]
 
 #[cfg(test)]
 mod backlog;
 #[cfg(test)]
-mod seats;
-#[cfg(test)]
 mod sending;
-#[cfg(test)]
-mod sessions;

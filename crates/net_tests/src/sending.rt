@@ -15,10 +15,11 @@ use ups_assoc::Config;
 use ups_ledger::Commits;
 use ups_log::{Account, Tally, end_told};
 use ups_manager::Manager;
-use ups_net::{ServerOptions, Site, ends_of, serve_one};
+use ups_net::{ServerOptions, Site, serve_one};
 use ups_peers::ServerLimits;
 use ups_service::SharedService;
 use ups_session::{End, SessionFault};
+use ups_transport::ends_of;
 use ups_turn::{Desk, Pass};
 
 /// Returns a server's connection, whose client has asked for an association with another application entity, and the

@@ -16,6 +16,7 @@ use ups_manager::*;
 use ups_match::Keys;
 use ups_pdu::{Ae, Uid};
 
+mod compacted;
 mod counted;
 mod entries;
 mod histories;

@@ -9,9 +9,9 @@ use Rattle.ups_life.specs.declared.row.Row.{Row}
 use Rattle.ups_life.specs.declared.request.Reply.{Reply}
 use Rattle.ups_life.specs.declared.request.Reply.TheVariants.{Status as Answered}
 use Rattle.ups_life.specs.declared.request.Request.{Request}
-use Rattle.ups_life.specs.declared.request.Request.TheVariants.{Create, Change, AskCancel, Set, Subscribe, Unsubscribe, Suspend, Ack, Sweep}
+use Rattle.ups_life.specs.declared.request.Request.TheVariants.{Create, Change, AskCancel, Set, Subscribe, Unsubscribe, Suspend, Ack, Sweep, Reserve}
 use Rattle.ups_life.specs.Settings.{Settings}
-use Rattle.ups_life.specs.Steps.{creates, used, step_of, named_step, row_after, nothing}
+use Rattle.ups_life.specs.Steps.{uses_uid, used, step_of, named_step, row_after, nothing}
 use Rattle.ups_life.specs.Watching.{known}
 use Rattle.ups_life.specs.Verdict.{verdict}
 use Rattle.ups_life.specs.History.{accepts, sized, repeats, row_then, receiver_of, of_peer, of_lock, status, decided, in_room, reply, legal}
@@ -22,9 +22,9 @@ use Rattle.ups_compact.proofs.Staying.{Away, Stays, stays_before, known_left}
 -- a UID that was not used is not used in what is left
 unused_left : {A : Type 0} (steps : List (List ℕ)) (v : List ℕ) (es : List (Entry A)) → used es v ≡ false → used (left steps es) v ≡ false
 unused_left steps v [] h = refl
-unused_left {A} steps v (e ∷ es) h = at (is_left steps e.request) (neither (creates v e.request) (used es v) h).0 (unused_left steps v es (neither (creates v e.request) (used es v) h).1)
+unused_left {A} steps v (e ∷ es) h = at (is_left steps e.request) (neither (uses_uid v e.request) (used es v) h).0 (unused_left steps v es (neither (uses_uid v e.request) (used es v) h).1)
   where
-    at : (b : Bool) → creates v e.request ≡ false → used (left steps es) v ≡ false → used (cond b (e ∷ left steps es) (left steps es)) v ≡ false
+    at : (b : Bool) → uses_uid v e.request ≡ false → used (left steps es) v ≡ false → used (cond b (e ∷ left steps es) (left steps es)) v ≡ false
     at true c more = ap (λ (b : Bool). b || used (left steps es) v) c ∙ more
     at false c more = more
 
@@ -38,6 +38,7 @@ repeats_left s steps es (Unsubscribe place receiver) d = refl
 repeats_left s steps es (Suspend receiver) d = refl
 repeats_left s steps es (Ack upto) d = refl
 repeats_left s steps es Sweep d = refl
+repeats_left s steps es (Reserve v) d = refl
 
 -- what is left is about the steps that stay
 pub names_left : {A : Type 0} (steps : List (List ℕ)) (r : Request A) → is_left steps r ≡ true → is_about steps (named_step r) ≡ true
@@ -50,6 +51,7 @@ names_left steps (Unsubscribe place receiver) is = is
 names_left steps (Suspend receiver) is = refl
 names_left steps (Ack upto) is = refl
 names_left steps Sweep is = refl
+names_left steps (Reserve step) is = refl
 
 pub on_left : {A : Type 0} (steps : List (List ℕ)) (r : Request A) → is_left steps r ≡ true → is_about steps (step_of r) ≡ true
 on_left steps (Create v set) is = is
@@ -61,6 +63,7 @@ on_left steps (Unsubscribe place receiver) is = refl
 on_left steps (Suspend receiver) is = refl
 on_left steps (Ack upto) is = refl
 on_left steps Sweep is = refl
+on_left steps (Reserve step) is = refl
 
 status_left : {A : Type 0} (s : Settings) → Away A s → (steps : List (List ℕ)) (e : Entry A) (es : List (Entry A)) → legal s es ≡ true → Stays s steps es → said s es e.request ≡ Success → is_left steps e.request ≡ true
     → status s (left steps es) e ≡ status s es e
@@ -84,6 +87,7 @@ decided_left s steps e ls es (Unsubscribe place receiver) is h = ap Answered h
 decided_left s steps e ls es (Suspend receiver) is h = ap Answered h
 decided_left s steps e ls es (Ack upto) is h = absurd cc
 decided_left s steps e ls es Sweep is h = absurd cc
+decided_left s steps e ls es (Reserve v) is h = ap Answered h
 
 -- there is room for less where there was for more
 abbrev pub no_room : {A : Type 0} → Reply A

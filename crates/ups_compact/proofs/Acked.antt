@@ -6,7 +6,7 @@ use Rattle.std.proofs.lemmas.List.{append-nil}
 use Rattle.ups_life.specs.declared.entry.Entry.{Entry}
 use Rattle.ups_life.specs.declared.peer.Peer.{Peer}
 use Rattle.ups_life.specs.declared.request.Request.{Request}
-use Rattle.ups_life.specs.declared.request.Request.TheVariants.{Create, Change, AskCancel, Set, Subscribe, Unsubscribe, Suspend, Ack, Sweep}
+use Rattle.ups_life.specs.declared.request.Request.TheVariants.{Create, Change, AskCancel, Set, Subscribe, Unsubscribe, Suspend, Ack, Sweep, Reserve}
 use Rattle.ups_life.specs.Settings.{Settings}
 use Rattle.ups_life.specs.Steps.{row_of, holder}
 use Rattle.ups_life.specs.Watching.{is_peer, cover, watch, is_due, held}
@@ -102,6 +102,7 @@ stays_unacked steps w ae n (Subscribe target receiver lock) h = refl
 stays_unacked steps w ae n (Unsubscribe place receiver) h = refl
 stays_unacked steps w ae n (Suspend receiver) h = refl
 stays_unacked steps w ae n Sweep h = refl
+stays_unacked steps w ae n (Reserve step) h = refl
 
 pub left_acked : {A : Type 0} (steps : List (List ℕ)) (w : List ℕ) (es : List (Entry A)) → acked (left steps es) w ≡ 0
 left_acked steps w [] = refl

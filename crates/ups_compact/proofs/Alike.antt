@@ -1,5 +1,5 @@
 -- A history that is compacted while it grows says what its log says.
-use Rattle.std.proofs.Common.{◌≡◌, ◌⊎◌, inl, inr, ℕ, Bool, true, false, ◌||◌, ◌&&◌, not, cond, List, [], ◌∷◌, ◌++◌, length, map, filter, Option, None, Some, refl, sym, ap, ◌∙◌}
+use Rattle.std.proofs.Common.{◌≡◌, ℕ, Bool, true, false, ◌||◌, ◌&&◌, not, cond, List, [], ◌∷◌, ◌++◌, length, map, filter, Option, None, Some, refl, sym, ap, ◌∙◌}
 use Rattle.std.specs.Prelude.{is_some}
 use Rattle.std.specs.List.{list_any}
 use Rattle.std.specs.Option.{option_or, option_map, unwrap_or}
@@ -13,31 +13,23 @@ use Rattle.ups_cycle.specs.declared.status.Status.{Status}
 use Rattle.ups_life.specs.declared.entry.Entry.{Entry}
 use Rattle.ups_life.specs.declared.peer.Peer.{Peer}
 use Rattle.ups_life.specs.declared.row.Row.{Row}
-use Rattle.ups_life.specs.declared.request.Reply.{Reply}
 use Rattle.ups_life.specs.declared.request.Reply.TheVariants.{Status as Answered, Swept}
 use Rattle.ups_life.specs.declared.request.Request.{Request}
-use Rattle.ups_life.specs.declared.request.Request.TheVariants.{Create, Change, AskCancel, Set, Subscribe, Unsubscribe, Suspend, Ack, Sweep}
+use Rattle.ups_life.specs.declared.request.Request.TheVariants.{Create, Change, AskCancel, Set, Subscribe, Unsubscribe, Suspend, Ack, Sweep, Reserve}
 use Rattle.ups_life.specs.declared.watching.Subscription.{Subscription}
 use Rattle.ups_life.specs.Settings.{Settings}
-use Rattle.ups_life.specs.Steps.{Claim, is_step, is_on, creates, used, state_then, state, claimed, claim, right, finished, final_at, given, row, row_of, row_after, step_of, named_step, nothing}
+use Rattle.ups_life.specs.Steps.{Claim, is_step, is_on, creates, uses_uid, used, state_then, state, claimed, claim, right, finished, final_at, given, row, row_of, row_after, step_of, named_step, nothing}
 use Rattle.ups_life.specs.Watching.{granted, takes_in, cover_after, cover, newly_covered, watch_after, watch, is_locked, is_kept, has_passed, is_due, held, held_after, is_among, is_held, known, removed}
 use Rattle.ups_life.specs.Verdict.{verdict}
 use Rattle.ups_life.specs.History.{sized, repeats, row_then, receiver_of, of_peer, of_lock, status, decided, legal, shown_of, got}
-use Rattle.ups_life.specs.Worklist.{rows, worklist}
+use Rattle.ups_life.specs.Worklist.{worklist}
 use Rattle.ups_life.proofs.Texts.{same_text, text_is_itself}
 use Rattle.ups_life.proofs.Accepted.{neither, differ, legal_tail, succeeded, on_held}
-use Rattle.ups_life.proofs.HeldOnce.{is_held_used, not_among_more}
+use Rattle.ups_life.proofs.HeldOnce.{is_held_used, creates_none}
 use Rattle.ups_life.proofs.OneHolder.{not_on}
-use Rattle.ups_life.proofs.RowsTell.{any_filter}
-use Rattle.ups_compact.specs.Compacting.{compact, upto, compacted, is_answered_alike}
-use Rattle.ups_compact.specs.Course.{Turn, Entered, Compacted, log_of, kept_of, is_course, is_anew, SaysSame}
-use Rattle.ups_compact.proofs.Holding.{claim_left, row_next, row_of_left}
-use Rattle.ups_compact.proofs.Watching.{watch_left}
-use Rattle.ups_compact.proofs.Covering.{cover_left}
-use Rattle.ups_compact.proofs.Staying.{Away, held_left, all_among}
-use Rattle.ups_compact.proofs.Acked.{with_each, row_of_acks, watch_acks, cover_acks, held_acks}
-use Rattle.ups_compact.proofs.Used.{used_compacted}
-use Rattle.ups_compact.proofs.Accepting.{both}
+use Rattle.ups_compact.specs.Shifting.{SaysSame}
+use Rattle.ups_compact.proofs.Holding.{row_next}
+use Rattle.ups_compact.proofs.Used.{held_then}
 
 -- two histories say the same of a step
 pub record Same {A : Type 0} (s : Settings) (xs ys : List (Entry A)) (u : List ℕ) : Type 0 where
@@ -90,8 +82,8 @@ nothing_next s e es u off h = record {
 pub unused_nothing : {A : Type 0} (s : Settings) (es : List (Entry A)) (u : List ℕ) → legal s es ≡ true → used es u ≡ false → Nothing s es u
 unused_nothing s [] u l h = record { no_row = refl; no_state = refl; no_claim = refl; no_end = refl }
 unused_nothing s (e ∷ es) u l h =
-    let n = neither (creates u e.request) (used es u) h in
-    nothing_next s e es u (not_on s es u e.request (succeeded s e es l) n.1 n.0) (unused_nothing s es u (legal_tail s e es l) n.1)
+    let n = neither (uses_uid u e.request) (used es u) h in
+    nothing_next s e es u (not_on s es u e.request (succeeded s e es l) n.1 (creates_none u e.request n.0)) (unused_nothing s es u (legal_tail s e es l) n.1)
 
 or_true : (b : Bool) → b || true ≡ true
 or_true true = refl
@@ -104,30 +96,25 @@ filter_among p q (x ∷ xs) h =
     ap (λ (b : Bool). cond b (x ∷ filter p xs) (filter p xs)) (h x (ap (λ (b : Bool). b || is_among x xs) (text_is_itself x)))
     ∙ ap (λ (ys : List (List ℕ)). cond (q x) (x ∷ ys) ys) (filter_among p q xs (λ u a. h u (ap (λ (b : Bool). bytes_eq x u || b) a ∙ or_true (bytes_eq x u))))
 
-map_among : {X : Type 0} (f g : List ℕ → X) (xs : List (List ℕ)) → ((u : List ℕ) → is_among u xs ≡ true → f u ≡ g u) → map f xs ≡ map g xs
+pub map_among : {X : Type 0} (f g : List ℕ → X) (xs : List (List ℕ)) → ((u : List ℕ) → is_among u xs ≡ true → f u ≡ g u) → map f xs ≡ map g xs
 map_among f g [] h = refl
 map_among {X} f g (x ∷ xs) h =
     ap (λ (y : X). y ∷ map f xs) (h x (ap (λ (b : Bool). b || is_among x xs) (text_is_itself x)))
     ∙ ap (λ (ys : List X). g x ∷ ys) (map_among f g xs (λ u a. h u (ap (λ (b : Bool). bytes_eq x u || b) a ∙ or_true (bytes_eq x u))))
 
-any_same : {X : Type 0} (f g : X → Bool) → ((x : X) → f x ≡ g x) → (xs : List X) → list_any f xs ≡ list_any g xs
+pub any_same : {X : Type 0} (f g : X → Bool) → ((x : X) → f x ≡ g x) → (xs : List X) → list_any f xs ≡ list_any g xs
 any_same f g h [] = refl
 any_same f g h (x ∷ xs) = ap (λ (b : Bool). b || list_any f xs) (h x) ∙ ap (λ (b : Bool). g x || b) (any_same f g h xs)
-
--- a step that is held after an entry that does not create it was held
-held_then : {A : Type 0} (s : Settings) (es : List (Entry A)) (m : ℕ) (us : List (List ℕ)) (u : List ℕ) (q : Request A) → creates u q ≡ false → is_among u (held_after s es m us q) ≡ true → is_among u us ≡ true
-held_then s es m us u (Create v set) c h = at (is_among u us) refl
-  where
-    at : (b : Bool) → is_among u us ≡ b → b ≡ true
-    at true is = refl
-    at false is = absurd (differ (is_among u (us ++ v ∷ [])) (not_among_more u v us is c) h)
-held_then s es m us u Sweep c h = any_filter (λ v. bytes_eq v u) (λ v. not (is_due s es m v)) us h
-held_then s es m us u q c h = h
 
 -- a creation under a UID that was not used
 pub unused_before : {A : Type 0} (es : List (Entry A)) (u : List ℕ) (q : Request A) → creates u q ≡ true → repeats es q ≡ false → used es u ≡ false
 unused_before es u (Create v set) c a = ap (used es) (sym (same_text v u c)) ∙ a
 unused_before es u q c a = absurd cc
+
+-- an acknowledgement names an event by its number
+abbrev pub is_ack : {A : Type 0} → Request A → Bool
+is_ack (Ack n) = true
+is_ack q = false
 
 -- WHAT IS SAID AFTERWARDS, by a history that says what its log says
 module _ {A : Type 0} (s : Settings) (by log : List (Entry A)) (r : SaysSame s by log) where
@@ -182,23 +169,7 @@ module _ {A : Type 0} (s : Settings) (by log : List (Entry A)) (r : SaysSame s b
       (known_same (named_step e.request))
       ∙ ap (λ (b : Bool). of_peer s.peers (receiver_of e.request) (of_lock s.peers e.request (sized e.request (row_then s log e).attributes (verdict (known s log (named_step e.request)) b e.request)))) again
 
-  again_same : (q : Request A) → is_answered_alike s log q ≡ true → repeats by q ≡ repeats log q
-  again_same (Create u set) h = at (used log u) refl (is_held s log u) refl h
-    where
-      at : (b : Bool) → used log u ≡ b → (c : Bool) → is_held s log u ≡ c → not b || c ≡ true → used by u ≡ b
-      at true was true is g = is_held_used s by u (held_by u is)
-      at true was false is g = absurd cc
-      at false was c is g = unused_by u was
-  again_same (Change step to t) h = refl
-  again_same (AskCancel step reasons) h = refl
-  again_same (Set step t set) h = refl
-  again_same (Subscribe target receiver lock) h = refl
-  again_same (Unsubscribe place receiver) h = refl
-  again_same (Suspend receiver) h = refl
-  again_same (Ack n) h = refl
-  again_same Sweep h = refl
-
-  decided_by : (e : Entry A) (q : Request A) → is_answered_alike s log q ≡ true → status s by e ≡ status s log e → decided s by e q ≡ decided s log e q
+  decided_by : (e : Entry A) (q : Request A) → is_ack q ≡ false → status s by e ≡ status s log e → decided s by e q ≡ decided s log e q
   decided_by e (Ack n) h same = absurd cc
   decided_by e Sweep h same = ap (λ (xs : List (List ℕ)). Swept (length xs)) (removed_same e.moment)
   decided_by e (Create u set) h same = ap (λ (x : Status). Answered x) same
@@ -208,9 +179,10 @@ module _ {A : Type 0} (s : Settings) (by log : List (Entry A)) (r : SaysSame s b
   decided_by e (Subscribe target receiver lock) h same = ap (λ (x : Status). Answered x) same
   decided_by e (Unsubscribe place receiver) h same = ap (λ (x : Status). Answered x) same
   decided_by e (Suspend receiver) h same = ap (λ (x : Status). Answered x) same
+  decided_by e (Reserve v) h same = ap (λ (x : Status). Answered x) same
 
-  pub decided_same : (e : Entry A) → is_answered_alike s log e.request ≡ true → decided s by e e.request ≡ decided s log e e.request
-  decided_same e h = decided_by e e.request h (status_same e (again_same e.request h))
+  pub decided_with : (e : Entry A) → is_ack e.request ≡ false → repeats by e.request ≡ repeats log e.request → decided s by e e.request ≡ decided s log e e.request
+  decided_with e other again = decided_by e e.request other (status_same e again)
 
   pub got_same : (step : Option (List ℕ)) (tags : List Tag) → got s by step tags ≡ got s log step tags
   got_same step tags = ap (λ (x : Option (Row A)). shown_of x tags) (known_same step)
@@ -250,6 +222,7 @@ module _ {A : Type 0} (s : Settings) (e : Entry A) (by log : List (Entry A)) (sa
   held_case (Unsubscribe place receiver) = r.steps
   held_case (Suspend receiver) = r.steps
   held_case (Ack n) = r.steps
+  held_case (Reserve v) = r.steps
 
   -- a step that is held afterwards was held, or is new
   at_step : {P : Type 0} (u : List ℕ) → is_held s (e ∷ log) u ≡ true → (is_held s log u ≡ true → P) → (creates u e.request ≡ true → P) → P
@@ -284,6 +257,7 @@ module _ {A : Type 0} (s : Settings) (e : Entry A) (by log : List (Entry A)) (sa
   after_same w u before (Suspend receiver) h = refl
   after_same w u before (Ack n) h = refl
   after_same w u before Sweep h = refl
+  after_same w u before (Reserve v) h = refl
 
   -- who watches a new step does not depend on what was before
   watch_new : (w u : List ℕ) (x y : Option Subscription) (q : Request A) → creates u q ≡ true → watch_after s log e w u x q ≡ watch_after s log e w u y q
@@ -298,7 +272,7 @@ module _ {A : Type 0} (s : Settings) (e : Entry A) (by log : List (Entry A)) (sa
       ∙ at_step u h (λ old. ap (λ (x : Option Subscription). watch_after s log e w u x e.request) (r.watched w u old)) (λ new. watch_new w u (watch s by w u) (watch s log w u) e.request new)
 
   used_then : (u : List ℕ) → used (e ∷ by) u ≡ true → used (e ∷ log) u ≡ true
-  used_then u = at (creates u e.request)
+  used_then u = at (uses_uid u e.request)
     where
       at : (b : Bool) → b || used by u ≡ true → b || used log u ≡ true
       at true h = refl
@@ -306,8 +280,8 @@ module _ {A : Type 0} (s : Settings) (e : Entry A) (by log : List (Entry A)) (sa
 
   unused_then : (u : List ℕ) → used (e ∷ log) u ≡ false → Nothing s (e ∷ log) u
   unused_then u h =
-      let n = neither (creates u e.request) (used log u) h in
-      nothing_next s e log u (at n.0 n.1 (is_on u e.request) refl) (says.unused u n.1)
+      let n = neither (uses_uid u e.request) (used log u) h in
+      nothing_next s e log u (at (creates_none u e.request n.0) n.1 (is_on u e.request) refl) (says.unused u n.1)
     where
       at : creates u e.request ≡ false → used log u ≡ false → (b : Bool) → is_on u e.request ≡ b → b ≡ false
       at old fresh true on = absurd (differ (used log u) fresh (used_log s by log r u (on_known u on old)))
@@ -325,52 +299,3 @@ module _ {A : Type 0} (s : Settings) (e : Entry A) (by log : List (Entry A)) (sa
     };
     unused = unused_then;
   }
-
--- AND AFTER A COMPACTION
-says_compacted : {A : Type 0} (caller moment : ℕ) (s : Settings) → Away A s → (by log : List (Entry A)) → legal s by ≡ true → Says s by log → Says s (compacted caller moment s by) log
-says_compacted {A} caller moment s law by log l says =
-    let r = says.same in record {
-      same = record {
-        steps =
-            held_acks caller moment (upto s by) s.peers (compact s by) s
-            ∙ held_left s law (held s by) by l (λ u h known. h)
-            ∙ all_among (held s by) (held s by) (λ u h. h)
-            ∙ r.steps;
-        rows = λ u h. row_of_acks caller moment (upto s by) s.peers (compact s by) s u ∙ row_of_left s (held s by) u (held_by s by log r u h) by ∙ r.rows u h;
-        claims = λ u h. with_each caller moment (upto s by) (λ (xs : List (Entry A)). claim xs u) (λ w n xs. refl) s.peers (compact s by) ∙ claim_left (held s by) u (held_by s by log r u h) by ∙ r.claims u h;
-        watched = λ w u h. watch_acks caller moment (upto s by) s.peers (compact s by) s w u ∙ watch_left s (held s by) w u (held_by s by log r u h) by ∙ r.watched w u h;
-        covered = λ w attributes. cover_acks caller moment (upto s by) s.peers (compact s by) s.peers w attributes ∙ cover_left (held s by) s.peers w attributes by ∙ r.covered w attributes;
-        used_too = λ u h. r.used_too u (is_held_used s by u (sym (used_compacted caller moment s by u) ∙ h));
-      };
-      unused = says.unused;
-    }
-
-says_nothing : {A : Type 0} (s : Settings) → Says {A = A} s [] []
-says_nothing s = record {
-  same = record { steps = refl; rows = λ u h. refl; claims = λ u h. refl; watched = λ w u h. refl; covered = λ w attributes. refl; used_too = λ u h. h };
-  unused = λ u h. record { no_row = refl; no_state = refl; no_claim = refl; no_end = refl };
-}
-
-pub first_not : (a b : Bool) → not a && b ≡ true → (a ≡ false) × (b ≡ true)
-first_not true b h = absurd cc
-first_not false b h = (refl, h)
-
--- the history that is left is legal
-pub course_legal : {A : Type 0} (s : Settings) (turns : List (Turn A)) → is_course s turns ≡ true → legal s (kept_of s turns) ≡ true
-course_legal s [] c = refl
-course_legal s (turn ∷ turns) c = (both (legal s (kept_of s (turn ∷ turns))) (is_course s turns) c).0
-
-pub course_before : {A : Type 0} (s : Settings) (turn : Turn A) (turns : List (Turn A)) → is_course s (turn ∷ turns) ≡ true → is_course s turns ≡ true
-course_before s turn turns c = (both (legal s (kept_of s (turn ∷ turns))) (is_course s turns) c).1
-
--- THE SAME IS SAID ALL ALONG
-pub says_all : {A : Type 0} (s : Settings) → Away A s → (turns : List (Turn A)) → is_course s turns ≡ true → is_anew turns ≡ true → Says s (kept_of s turns) (log_of turns)
-says_all s law [] c n = says_nothing s
-says_all s law (Entered e ∷ turns) c n =
-    let m = first_not (repeats (log_of turns) e.request) (is_anew turns) n in
-    says_then s e (kept_of s turns) (log_of turns) (says_all s law turns (course_before s (Entered e) turns c) m.1) (course_legal s (Entered e ∷ turns) c) m.0
-says_all s law (Compacted caller moment ∷ turns) c n =
-    says_compacted caller moment s law (kept_of s turns) (log_of turns) (course_legal s turns (course_before s (Compacted caller moment) turns c)) (says_all s law turns (course_before s (Compacted caller moment) turns c) n)
-
-pub says_same : {A : Type 0} (s : Settings) → Away A s → (turns : List (Turn A)) → is_course s turns ≡ true → is_anew turns ≡ true → SaysSame s (kept_of s turns) (log_of turns)
-says_same s law turns c n = (says_all s law turns c n).same

@@ -14,7 +14,7 @@ use Rattle.ups_life.specs.declared.row.Row.{Row}
 use Rattle.ups_life.specs.declared.request.Reply.{Reply}
 use Rattle.ups_life.specs.declared.request.Reply.TheVariants.{Status as Answered, Swept}
 use Rattle.ups_life.specs.declared.request.Request.{Request}
-use Rattle.ups_life.specs.declared.request.Request.TheVariants.{Create, Change, AskCancel, Set, Subscribe, Unsubscribe, Suspend, Ack, Sweep}
+use Rattle.ups_life.specs.declared.request.Request.TheVariants.{Create, Change, AskCancel, Set, Subscribe, Unsubscribe, Suspend, Ack, Sweep, Reserve}
 use Rattle.ups_life.specs.Settings.{Settings}
 use Rattle.ups_life.specs.Steps.{used, row, row_of, row_after, step_of, named_step, nothing}
 use Rattle.ups_life.specs.Watching.{held, is_among, is_held, known, is_due, removed}
@@ -22,14 +22,12 @@ use Rattle.ups_life.specs.Verdict.{verdict}
 use Rattle.ups_life.specs.History.{accepts, sized, repeats, row_then, receiver_of, of_peer, of_lock, status, decided, reply, legal, shown_of, got}
 use Rattle.ups_life.specs.Worklist.{rows, worklist}
 use Rattle.ups_life.proofs.Texts.{text_is_itself}
-use Rattle.ups_life.proofs.Accepted.{differ}
-use Rattle.ups_life.proofs.HeldOnce.{is_held_used}
-use Rattle.ups_compact.specs.Compacting.{compact, upto, compacted, has_title_twice, is_answered_alike}
+use Rattle.ups_compact.specs.Compacting.{compact, upto, compacted, reserved, has_title_twice, is_answered_alike}
 use Rattle.ups_compact.proofs.Holding.{row_of_left}
 use Rattle.ups_compact.proofs.Watching.{due_left}
 use Rattle.ups_compact.proofs.Staying.{Away, held_left, all_among}
 use Rattle.ups_compact.proofs.Acked.{row_of_acks, due_acks, held_acks}
-use Rattle.ups_compact.proofs.Used.{used_compacted}
+use Rattle.ups_compact.proofs.Used.{used_compacted, unused_after}
 use Rattle.ups_compact.proofs.Room.{no_longer}
 
 or_true : (b : Bool) → b || true ≡ true
@@ -82,13 +80,12 @@ module _ {A : Type 0} (caller moment : ℕ) (s : Settings) (law : Away A s) (es 
   removed_same now = ap (filter (is_due s (compacted caller moment s es) now)) held_same ∙ filter_among (is_due s (compacted caller moment s es) now) (is_due s es now) (held s es) (λ u h. due_same now u h)
 
   again_same : (r : Request A) → is_answered_alike s es r ≡ true → repeats (compacted caller moment s es) r ≡ repeats es r
-  again_same (Create u set) h = used_compacted caller moment s es u ∙ at (used es u) refl (is_held s es u) refl h
+  again_same (Create u set) h = at (used es u) refl (is_held s es u) refl h
     where
-      at : (b : Bool) → used es u ≡ b → (c : Bool) → is_held s es u ≡ c → not b || c ≡ true → c ≡ b
-      at true was true is g = refl
+      at : (b : Bool) → used es u ≡ b → (c : Bool) → is_held s es u ≡ c → not b || c ≡ true → used (compacted caller moment s es) u ≡ b
+      at true was true is g = used_compacted caller moment s es u ∙ ap (λ (b : Bool). b || reserved es u) is
       at true was false is g = absurd cc
-      at false was true is g = absurd (differ (used es u) was (is_held_used s es u is))
-      at false was false is g = refl
+      at false was c is g = unused_after caller moment s es u was
   again_same (Change step state t) h = refl
   again_same (AskCancel step reasons) h = refl
   again_same (Set step t set) h = refl
@@ -97,6 +94,7 @@ module _ {A : Type 0} (caller moment : ℕ) (s : Settings) (law : Away A s) (es 
   again_same (Suspend receiver) h = refl
   again_same (Ack n) h = refl
   again_same Sweep h = refl
+  again_same (Reserve v) h = refl
 
   decided_by : (e : Entry A) (r : Request A) → is_answered_alike s es r ≡ true → status s (compacted caller moment s es) e ≡ status s es e → decided s (compacted caller moment s es) e r ≡ decided s es e r
   decided_by e (Ack n) h same = absurd cc
@@ -108,6 +106,7 @@ module _ {A : Type 0} (caller moment : ℕ) (s : Settings) (law : Away A s) (es 
   decided_by e (Subscribe target receiver lock) h same = ap (λ (x : Status). Answered x) same
   decided_by e (Unsubscribe place receiver) h same = ap (λ (x : Status). Answered x) same
   decided_by e (Suspend receiver) h same = ap (λ (x : Status). Answered x) same
+  decided_by e (Reserve v) h same = ap (λ (x : Status). Answered x) same
 
   decided_same : (e : Entry A) → is_answered_alike s es e.request ≡ true → decided s (compacted caller moment s es) e e.request ≡ decided s es e e.request
   decided_same e h = decided_by e e.request h (status_same e (again_same e.request h))

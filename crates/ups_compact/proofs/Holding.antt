@@ -7,32 +7,32 @@ use Rattle.ups_life.specs.declared.entry.Entry.{Entry}
 use Rattle.ups_life.specs.Settings.{Settings}
 use Rattle.ups_life.specs.Steps.{Claim, is_on, state_then, state, claimed, claim, right, finished, final_at, given, gives, row, row_of, holder}
 use Rattle.ups_life.specs.Watching.{is_among}
-use Rattle.ups_compact.specs.Compacting.{is_left, left}
-use Rattle.ups_compact.proofs.Off.{off}
+use Rattle.ups_compact.specs.Compacting.{left}
+use Rattle.ups_compact.proofs.Off.{does_some, plain, off, said_left}
 
-pub state_left : {A : Type 0} (steps : List (List ℕ)) (u : List ℕ) → is_among u steps ≡ true → (es : List (Entry A)) → state (left steps es) u ≡ state es u
-state_left steps u in' [] = refl
-state_left {A} steps u in' (e ∷ es) = at (is_left steps e.request) refl (state_left steps u in' es)
+pub state_plain : {A : Type 0} (steps : List (List ℕ)) (u : List ℕ) → is_among u steps ≡ true → (es : List (Entry A)) → state (plain steps es) u ≡ state es u
+state_plain steps u in' [] = refl
+state_plain {A} steps u in' (e ∷ es) = at (does_some steps e.request) refl (state_plain steps u in' es)
   where
-    at : (b : Bool) → is_left steps e.request ≡ b → state (left steps es) u ≡ state es u → state (cond b (e ∷ left steps es) (left steps es)) u ≡ state (e ∷ es) u
+    at : (b : Bool) → does_some steps e.request ≡ b → state (plain steps es) u ≡ state es u → state (cond b (e ∷ plain steps es) (plain steps es)) u ≡ state (e ∷ es) u
     at true is h = ap (λ (x : StepState). cond (is_on u e.request) (state_then x e.request) x) h
     at false is h = h ∙ sym (ap (λ (b : Bool). cond b (state_then (state es u) e.request) (state es u)) (off steps u e.request in' is))
 
-pub claim_left : {A : Type 0} (steps : List (List ℕ)) (u : List ℕ) → is_among u steps ≡ true → (es : List (Entry A)) → claim (left steps es) u ≡ claim es u
-claim_left steps u in' [] = refl
-claim_left {A} steps u in' (e ∷ es) = at (is_left steps e.request) refl (claim_left steps u in' es)
+pub claim_plain : {A : Type 0} (steps : List (List ℕ)) (u : List ℕ) → is_among u steps ≡ true → (es : List (Entry A)) → claim (plain steps es) u ≡ claim es u
+claim_plain steps u in' [] = refl
+claim_plain {A} steps u in' (e ∷ es) = at (does_some steps e.request) refl (claim_plain steps u in' es)
   where
-    at : (b : Bool) → is_left steps e.request ≡ b → claim (left steps es) u ≡ claim es u → claim (cond b (e ∷ left steps es) (left steps es)) u ≡ claim (e ∷ es) u
+    at : (b : Bool) → does_some steps e.request ≡ b → claim (plain steps es) u ≡ claim es u → claim (cond b (e ∷ plain steps es) (plain steps es)) u ≡ claim (e ∷ es) u
     at true is h = ap (λ (x : Option Claim). cond (is_on u e.request) (option_or (claimed e) x) x) h
     at false is h = h ∙ sym (ap (λ (b : Bool). cond b (option_or (claimed e) (claim es u)) (claim es u)) (off steps u e.request in' is))
 
-pub final_left : {A : Type 0} (steps : List (List ℕ)) (u : List ℕ) → is_among u steps ≡ true → (es : List (Entry A)) → final_at (left steps es) u ≡ final_at es u
-final_left steps u in' [] = refl
-final_left {A} steps u in' (e ∷ es) = at (is_left steps e.request) refl (final_left steps u in' es)
+pub final_plain : {A : Type 0} (steps : List (List ℕ)) (u : List ℕ) → is_among u steps ≡ true → (es : List (Entry A)) → final_at (plain steps es) u ≡ final_at es u
+final_plain steps u in' [] = refl
+final_plain {A} steps u in' (e ∷ es) = at (does_some steps e.request) refl (final_plain steps u in' es)
   where
-    at : (b : Bool) → is_left steps e.request ≡ b → final_at (left steps es) u ≡ final_at es u → final_at (cond b (e ∷ left steps es) (left steps es)) u ≡ final_at (e ∷ es) u
+    at : (b : Bool) → does_some steps e.request ≡ b → final_at (plain steps es) u ≡ final_at es u → final_at (cond b (e ∷ plain steps es) (plain steps es)) u ≡ final_at (e ∷ es) u
     at true is h =
-        ap (λ (x : StepState). cond (is_on u e.request) (option_or (finished x e.moment e.request) (final_at (left steps es) u)) (final_at (left steps es) u)) (state_left steps u in' es)
+        ap (λ (x : StepState). cond (is_on u e.request) (option_or (finished x e.moment e.request) (final_at (plain steps es) u)) (final_at (plain steps es) u)) (state_plain steps u in' es)
         ∙ ap (λ (x : Option ℕ). cond (is_on u e.request) (option_or (finished (state es u) e.moment e.request) x) x) h
     at false is h = h ∙ sym (ap (λ (b : Bool). cond b (option_or (finished (state es u) e.moment e.request) (final_at es u)) (final_at es u)) (off steps u e.request in' is))
 
@@ -41,24 +41,39 @@ pub row_next : {A : Type 0} (s : Settings) (u : List ℕ) (e : Entry A) (xs es :
 row_next s u e xs es p q =
     ap (λ (x : StepState). laid_over (gives s.offset x u e) (row s xs u)) p ∙ ap (λ (x : List El). laid_over (gives s.offset (state es u) u e) x) q
 
-pub row_left : {A : Type 0} (s : Settings) (steps : List (List ℕ)) (u : List ℕ) → is_among u steps ≡ true → (es : List (Entry A)) → row s (left steps es) u ≡ row s es u
-row_left s steps u in' [] = refl
-row_left {A} s steps u in' (e ∷ es) = at (is_left steps e.request) refl (row_left s steps u in' es)
+pub row_plain : {A : Type 0} (s : Settings) (steps : List (List ℕ)) (u : List ℕ) → is_among u steps ≡ true → (es : List (Entry A)) → row s (plain steps es) u ≡ row s es u
+row_plain s steps u in' [] = refl
+row_plain {A} s steps u in' (e ∷ es) = at (does_some steps e.request) refl (row_plain s steps u in' es)
   where
-    at : (b : Bool) → is_left steps e.request ≡ b → row s (left steps es) u ≡ row s es u → row s (cond b (e ∷ left steps es) (left steps es)) u ≡ row s (e ∷ es) u
-    at true is h = row_next s u e (left steps es) es (state_left steps u in' es) h
+    at : (b : Bool) → does_some steps e.request ≡ b → row s (plain steps es) u ≡ row s es u → row s (cond b (e ∷ plain steps es) (plain steps es)) u ≡ row s (e ∷ es) u
+    at true is h = row_next s u e (plain steps es) es (state_plain steps u in' es) h
     at false is h = h ∙ sym (ap (λ (b : Bool). laid_over (cond b (given s.offset e.moment (state es u) e.request) []) (row s es u)) (off steps u e.request in' is))
 
-pub row_of_left : {A : Type 0} (s : Settings) (steps : List (List ℕ)) (u : List ℕ) → is_among u steps ≡ true → (es : List (Entry A)) → row_of s (left steps es) u ≡ row_of s es u
-row_of_left s steps u in' es =
-    let r = row_left s steps u in' es in
-    let t = state_left steps u in' es in
-    let c = ap (λ (x : Option Claim). option_map (λ (k : Claim). k.transaction) x) (claim_left steps u in' es) in
-    let f = final_left steps u in' es in
-    ap (λ (x : List El). record { attributes = x; state = state (left steps es) u; transaction = right (left steps es) u; final_at = final_at (left steps es) u }) r
-    ∙ (ap (λ (x : StepState). record { attributes = row s es u; state = x; transaction = right (left steps es) u; final_at = final_at (left steps es) u }) t
-    ∙ (ap (λ (x : Option (List ℕ)). record { attributes = row s es u; state = state es u; transaction = x; final_at = final_at (left steps es) u }) c
+pub row_of_plain : {A : Type 0} (s : Settings) (steps : List (List ℕ)) (u : List ℕ) → is_among u steps ≡ true → (es : List (Entry A)) → row_of s (plain steps es) u ≡ row_of s es u
+row_of_plain s steps u in' es =
+    let r = row_plain s steps u in' es in
+    let t = state_plain steps u in' es in
+    let c = ap (λ (x : Option Claim). option_map (λ (k : Claim). k.transaction) x) (claim_plain steps u in' es) in
+    let f = final_plain steps u in' es in
+    ap (λ (x : List El). record { attributes = x; state = state (plain steps es) u; transaction = right (plain steps es) u; final_at = final_at (plain steps es) u }) r
+    ∙ (ap (λ (x : StepState). record { attributes = row s es u; state = x; transaction = right (plain steps es) u; final_at = final_at (plain steps es) u }) t
+    ∙ (ap (λ (x : Option (List ℕ)). record { attributes = row s es u; state = state es u; transaction = x; final_at = final_at (plain steps es) u }) c
     ∙ ap (λ (x : Option ℕ). record { attributes = row s es u; state = state es u; transaction = right es u; final_at = x }) f))
 
-pub holder_left : {A : Type 0} (steps : List (List ℕ)) (u : List ℕ) → is_among u steps ≡ true → (es : List (Entry A)) → holder (left steps es) u ≡ holder es u
-holder_left steps u in' es = ap (λ (x : Option Claim). option_map (λ (k : Claim). k.holder) x) (claim_left steps u in' es)
+pub holder_plain : {A : Type 0} (steps : List (List ℕ)) (u : List ℕ) → is_among u steps ≡ true → (es : List (Entry A)) → holder (plain steps es) u ≡ holder es u
+holder_plain steps u in' es = ap (λ (x : Option Claim). option_map (λ (k : Claim). k.holder) x) (claim_plain steps u in' es)
+
+-- and of what is left, with its reservations
+module _ {A : Type 0} (steps : List (List ℕ)) (u : List ℕ) (in' : is_among u steps ≡ true) (es : List (Entry A)) where
+  pub state_left : state (left steps es) u ≡ state es u
+  state_left = said_left steps (λ (xs : List (Entry A)). state xs u) (state_plain steps u in') es
+
+  pub holder_left : holder (left steps es) u ≡ holder es u
+  holder_left = said_left steps (λ (xs : List (Entry A)). holder xs u) (holder_plain steps u in') es
+
+module _ {A : Type 0} (s : Settings) (steps : List (List ℕ)) (u : List ℕ) (in' : is_among u steps ≡ true) (es : List (Entry A)) where
+  pub row_left : row s (left steps es) u ≡ row s es u
+  row_left = said_left steps (λ (xs : List (Entry A)). row s xs u) (row_plain s steps u in') es
+
+  pub row_of_left : row_of s (left steps es) u ≡ row_of s es u
+  row_of_left = said_left steps (λ (xs : List (Entry A)). row_of s xs u) (row_of_plain s steps u in') es

@@ -1,59 +1,74 @@
 -- What is kept for some steps, with the sweeps that removed one of them, says of each of them what the history said.
-use Rattle.std.proofs.Common.{◌≡◌, ℕ, suc, Bool, true, false, ◌||◌, not, cond, List, [], ◌∷◌, length, filter, Option, None, Some, refl, sym, ap, ◌∙◌, arith}
+use Rattle.std.proofs.Common.{◌≡◌, ℕ, suc, Bool, true, false, ◌||◌, not, cond, List, [], ◌∷◌, ◌++◌, length, filter, Option, None, Some, refl, sym, ap, ◌∙◌, arith}
 use Rattle.std.specs.Prelude.{nat_lt}
+use Rattle.std.specs.Str.{bytes_eq}
 use Rattle.std.proofs.lemmas.Bool.Decides.{nat_tests}
 use Rattle.ups_dataset.specs.Data.{El}
 use Rattle.ups_life.specs.declared.entry.Entry.{Entry}
 use Rattle.ups_life.specs.declared.row.Row.{Row}
 use Rattle.ups_life.specs.declared.request.Request.{Request}
-use Rattle.ups_life.specs.declared.request.Request.TheVariants.{Sweep}
+use Rattle.ups_life.specs.declared.request.Request.TheVariants.{Create, Sweep, Reserve}
 use Rattle.ups_life.specs.declared.peer.Peer.{Peer}
 use Rattle.ups_life.specs.Settings.{Settings}
-use Rattle.ups_life.specs.Steps.{creates, used, state, claim, row, row_of}
+use Rattle.ups_life.specs.Steps.{uses_uid, used, state, claim, row, row_of}
 use Rattle.ups_life.specs.Watching.{cover, watch, is_due, held, held_after, is_among, is_held, known, removed}
-use Rattle.ups_compact.specs.Compacting.{is_about, is_left, left, sweeps_some, is_left_for, left_for}
-use Rattle.ups_compact.proofs.Holding.{state_left, claim_left, row_left, row_of_left}
-use Rattle.ups_compact.proofs.Watching.{watch_left, due_left}
-use Rattle.ups_compact.proofs.Covering.{cover_left}
+use Rattle.ups_compact.specs.Compacting.{is_about, is_left, sweeps_some, is_left_for, reservation, left_for}
+use Rattle.ups_compact.proofs.Off.{does_some, plain, does_less}
+use Rattle.ups_compact.proofs.Holding.{state_plain, claim_plain, row_plain, row_of_plain}
+use Rattle.ups_compact.proofs.Watching.{watch_plain, due_plain}
+use Rattle.ups_compact.proofs.Covering.{cover_plain}
 use Rattle.ups_compact.proofs.Staying.{held_case, among_left}
 
--- without its sweeps it is what is left
-pub left_of_kept : {A : Type 0} (s : Settings) (steps : List (List ℕ)) (es : List (Entry A)) → left steps (left_for s steps es) ≡ left steps es
-left_of_kept s steps [] = refl
-left_of_kept {A} s steps (e ∷ es) = at (is_left steps e.request) refl (sweeps_some s steps es e.moment e.request) refl (left_of_kept s steps es)
-  where
-    at : (b : Bool) → is_left steps e.request ≡ b → (c : Bool) → sweeps_some s steps es e.moment e.request ≡ c → left steps (left_for s steps es) ≡ left steps es
-        → left steps (cond (b || c) (e ∷ left_for s steps es) (left_for s steps es)) ≡ cond b (e ∷ left steps es) (left steps es)
-    at true is c so h = ap (λ (b : Bool). cond b (e ∷ left steps (left_for s steps es)) (left steps (left_for s steps es))) is ∙ ap (λ (xs : List (Entry A)). e ∷ xs) h
-    at false is true so h = ap (λ (b : Bool). cond b (e ∷ left steps (left_for s steps es)) (left steps (left_for s steps es))) is ∙ h
-    at false is false so h = h
+-- the reservation of a UID, in the place of an entry
+abbrev pub reserved_by : {A : Type 0} → Entry A → List ℕ → Entry A
+reserved_by e v = record { caller = e.caller; ae = e.ae; moment = e.moment; request = Reserve v }
 
--- so what is left says is what is kept says
-module _ {A X : Type 0} (s : Settings) (steps : List (List ℕ)) (f : List (Entry A) → X) (same : (xs : List (Entry A)) → f (left steps xs) ≡ f xs) where
+-- what a reservation does not change stays as it is with what remains of an entry
+module _ {A X : Type 0} (e : Entry A) (f : List (Entry A) → X) (same : (v : List ℕ) (xs : List (Entry A)) → f (reserved_by e v ∷ xs) ≡ f xs) where
+  pub with_reservation : (r : Request A) (xs : List (Entry A)) → f (reservation e r ++ xs) ≡ f xs
+  with_reservation (Create v set) xs = same v xs
+  with_reservation r xs = refl
+
+-- without its sweeps and reservations it is what is left without reservations
+pub plain_kept : {A : Type 0} (s : Settings) (steps : List (List ℕ)) (es : List (Entry A)) → plain steps (left_for s steps es) ≡ plain steps es
+plain_kept s steps [] = refl
+plain_kept {A} s steps (e ∷ es) = at (is_left steps e.request) refl (sweeps_some s steps es e.moment e.request) (plain_kept s steps es)
+  where
+    at : (b : Bool) → is_left steps e.request ≡ b → (c : Bool) → plain steps (left_for s steps es) ≡ plain steps es
+        → plain steps (cond (b || c) (e ∷ left_for s steps es) (reservation e e.request ++ left_for s steps es)) ≡ plain steps (e ∷ es)
+    at true is c h = ap (λ (xs : List (Entry A)). cond (does_some steps e.request) (e ∷ xs) xs) h
+    at false is true h = ap (λ (xs : List (Entry A)). cond (does_some steps e.request) (e ∷ xs) xs) h
+    at false is false h =
+        with_reservation e (plain steps) (λ v xs. refl) e.request (left_for s steps es)
+        ∙ h
+        ∙ sym (ap (λ (b : Bool). cond b (e ∷ plain steps es) (plain steps es)) (does_less steps e.request is))
+
+-- so what is kept says what the history says
+module _ {A X : Type 0} (s : Settings) (steps : List (List ℕ)) (f : List (Entry A) → X) (same : (xs : List (Entry A)) → f (plain steps xs) ≡ f xs) where
   pub said_kept : (es : List (Entry A)) → f (left_for s steps es) ≡ f es
-  said_kept es = sym (same (left_for s steps es)) ∙ ap f (left_of_kept s steps es) ∙ same es
+  said_kept es = sym (same (left_for s steps es)) ∙ ap f (plain_kept s steps es) ∙ same es
 
 module _ {A : Type 0} (s : Settings) (steps : List (List ℕ)) (u : List ℕ) (in' : is_among u steps ≡ true) (es : List (Entry A)) where
   pub state_kept : state (left_for s steps es) u ≡ state es u
-  state_kept = said_kept s steps (λ (xs : List (Entry A)). state xs u) (state_left steps u in') es
+  state_kept = said_kept s steps (λ (xs : List (Entry A)). state xs u) (state_plain steps u in') es
 
   pub claim_kept : claim (left_for s steps es) u ≡ claim es u
-  claim_kept = said_kept s steps (λ (xs : List (Entry A)). claim xs u) (claim_left steps u in') es
+  claim_kept = said_kept s steps (λ (xs : List (Entry A)). claim xs u) (claim_plain steps u in') es
 
   pub row_kept : row s (left_for s steps es) u ≡ row s es u
-  row_kept = said_kept s steps (λ (xs : List (Entry A)). row s xs u) (row_left s steps u in') es
+  row_kept = said_kept s steps (λ (xs : List (Entry A)). row s xs u) (row_plain s steps u in') es
 
   pub row_of_kept : row_of s (left_for s steps es) u ≡ row_of s es u
-  row_of_kept = said_kept s steps (λ (xs : List (Entry A)). row_of s xs u) (row_of_left s steps u in') es
+  row_of_kept = said_kept s steps (λ (xs : List (Entry A)). row_of s xs u) (row_of_plain s steps u in') es
 
   pub watch_kept : (w : List ℕ) → watch s (left_for s steps es) w u ≡ watch s es w u
-  watch_kept w = said_kept s steps (λ (xs : List (Entry A)). watch s xs w u) (watch_left s steps w u in') es
+  watch_kept w = said_kept s steps (λ (xs : List (Entry A)). watch s xs w u) (watch_plain s steps w u in') es
 
   pub due_kept : (m : ℕ) → is_due s (left_for s steps es) m u ≡ is_due s es m u
-  due_kept m = said_kept s steps (λ (xs : List (Entry A)). is_due s xs m u) (due_left s steps u m in') es
+  due_kept m = said_kept s steps (λ (xs : List (Entry A)). is_due s xs m u) (due_plain s steps u m in') es
 
 pub cover_kept : {A : Type 0} (s : Settings) (steps : List (List ℕ)) (peers : List Peer) (w : List ℕ) (attributes : List El) (es : List (Entry A)) → cover peers (left_for s steps es) w attributes ≡ cover peers es w attributes
-cover_kept {A} s steps peers w attributes es = said_kept s steps (λ (xs : List (Entry A)). cover peers xs w attributes) (cover_left steps peers w attributes) es
+cover_kept {A} s steps peers w attributes es = said_kept s steps (λ (xs : List (Entry A)). cover peers xs w attributes) (cover_plain steps peers w attributes) es
 
 -- WHICH OF THE STEPS ARE HELD
 
@@ -104,9 +119,9 @@ held_then s steps m es r true is c so h = held_case s steps m (left_for s steps 
 held_then s steps m es r false is true so h = absurd cc
 held_then s steps m es r false is false so h = held_case s steps m (left_for s steps es) es r h (λ e. absurd cc) false is
 
-held_if : {A : Type 0} (s : Settings) (e : Entry A) (ls : List (Entry A)) (b : Bool) → held s (cond b (e ∷ ls) ls) ≡ cond b (held_after s ls e.moment (held s ls) e.request) (held s ls)
+held_if : {A : Type 0} (s : Settings) (e : Entry A) (ls : List (Entry A)) (b : Bool) → held s (cond b (e ∷ ls) (reservation e e.request ++ ls)) ≡ cond b (held_after s ls e.moment (held s ls) e.request) (held s ls)
 held_if s e ls true = refl
-held_if s e ls false = refl
+held_if s e ls false = with_reservation e (held s) (λ v xs. refl) e.request ls
 
 -- those that are held, in order
 pub held_kept : {A : Type 0} (s : Settings) (steps : List (List ℕ)) (es : List (Entry A)) → held s (left_for s steps es) ≡ filter (λ u. is_among u steps) (held s es)
@@ -130,19 +145,18 @@ removed_kept s steps es m =
     ap (filter (is_due s (left_for s steps es) m)) (held_kept s steps es)
     ∙ tests_swap (λ u. is_among u steps) (is_due s (left_for s steps es) m) (is_due s es m) (λ u in'. due_kept s steps u in' es m) (held s es)
 
--- WHICH UIDS ARE USED: none that was not
-pub used_before : {A : Type 0} (s : Settings) (steps : List (List ℕ)) (u : List ℕ) (es : List (Entry A)) → used (left_for s steps es) u ≡ true → used es u ≡ true
-used_before s steps u [] h = absurd cc
-used_before {A} s steps u (e ∷ es) h = at (is_left_for s steps e es) (used_before s steps u es) h
+-- WHICH UIDS ARE USED: those that were
+pub used_kept : {A : Type 0} (s : Settings) (steps : List (List ℕ)) (u : List ℕ) (es : List (Entry A)) → used (left_for s steps es) u ≡ used es u
+used_kept s steps u [] = refl
+used_kept {A} s steps u (e ∷ es) = at (is_left steps e.request) refl (sweeps_some s steps es e.moment e.request) (used_kept s steps u es)
   where
-    or_true : (b : Bool) → b || true ≡ true
-    or_true true = refl
-    or_true false = refl
+    -- of what is not left a creation alone uses a UID, which is reserved then
+    remains : (r : Request A) → is_left steps r ≡ false → used (left_for s steps es) u ≡ used es u → used (reservation e r ++ left_for s steps es) u ≡ uses_uid u r || used es u
+    remains (Create v set) is rest = ap (λ (b : Bool). bytes_eq v u || b) rest
+    remains (Reserve v) is rest = absurd cc
+    remains r is rest = rest
 
-    either : (b : Bool) → (used (left_for s steps es) u ≡ true → used es u ≡ true) → b || used (left_for s steps es) u ≡ true → b || used es u ≡ true
-    either true rest g = refl
-    either false rest g = rest g
-
-    at : (b : Bool) → (used (left_for s steps es) u ≡ true → used es u ≡ true) → used (cond b (e ∷ left_for s steps es) (left_for s steps es)) u ≡ true → creates u e.request || used es u ≡ true
-    at true rest g = either (creates u e.request) rest g
-    at false rest g = ap (λ (b : Bool). creates u e.request || b) (rest g) ∙ or_true (creates u e.request)
+    at : (b : Bool) → is_left steps e.request ≡ b → (c : Bool) → used (left_for s steps es) u ≡ used es u → used (cond (b || c) (e ∷ left_for s steps es) (reservation e e.request ++ left_for s steps es)) u ≡ used (e ∷ es) u
+    at true is c rest = ap (λ (b : Bool). uses_uid u e.request || b) rest
+    at false is true rest = ap (λ (b : Bool). uses_uid u e.request || b) rest
+    at false is false rest = remains e.request is rest

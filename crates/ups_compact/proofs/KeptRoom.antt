@@ -1,5 +1,5 @@
 -- What is compacted for some steps is legal: as many acknowledgements at least were dropped as are put behind it.
-use Rattle.std.proofs.Common.{◌≡◌, ℕ, ◌+◌, ◌<◌, ◌≤◌, Bool, true, false, ◌||◌, cond, List, [], ◌∷◌, length, take, drop, None, Some, refl, sym, ap, subst, ◌∙◌, arith, length-append}
+use Rattle.std.proofs.Common.{◌≡◌, ℕ, ◌+◌, ◌<◌, ◌≤◌, Bool, true, false, ◌||◌, cond, List, [], ◌∷◌, ◌++◌, length, take, drop, None, Some, refl, sym, ap, subst, ◌∙◌, arith, length-append}
 use Rattle.std.specs.Prelude.{nat_lt, is_some}
 use Rattle.std.proofs.lemmas.Bool.Decides.{nat_tests}
 use Rattle.std.proofs.lemmas.List.{length-map}
@@ -8,12 +8,12 @@ use Rattle.ups_life.specs.declared.entry.Entry.{Entry}
 use Rattle.ups_life.specs.declared.event.Event.{Event}
 use Rattle.ups_life.specs.declared.peer.Peer.{Peer}
 use Rattle.ups_life.specs.declared.request.Request.{Request}
-use Rattle.ups_life.specs.declared.request.Request.TheVariants.{Ack}
+use Rattle.ups_life.specs.declared.request.Request.TheVariants.{Create, Ack}
 use Rattle.ups_life.specs.Settings.{Settings}
 use Rattle.ups_life.specs.Watching.{is_among}
 use Rattle.ups_life.specs.Events.{events, acked_after, acked}
 use Rattle.ups_life.specs.History.{legal}
-use Rattle.ups_compact.specs.Compacting.{is_left, sweeps_some, left_for, reported, of_steps, acked_of_steps, above_zero, upto_for, compacted_for, has_title_twice}
+use Rattle.ups_compact.specs.Compacting.{is_left, sweeps_some, reservation, left_for, reported, of_steps, acked_of_steps, above_zero, upto_for, compacted_for, has_title_twice}
 use Rattle.ups_compact.proofs.KeptTold.{told_kept, legal_kept}
 use Rattle.ups_compact.proofs.Pending.{same_count}
 use Rattle.ups_compact.proofs.Room.{count, count_more, has_acked, one_more, none_has, Can, legal_acks, within_limit, length_acks}
@@ -22,10 +22,13 @@ use Rattle.ups_compact.proofs.Shifts.{kept_acked, both_ends}
 -- each that acknowledges has made one of the entries that are dropped
 step_for : {A : Type 0} (s : Settings) (steps : List (List ℕ)) (e : Entry A) (es : List (Entry A)) (ps : List Peer) (r : Request A) → has_title_twice ps ≡ false → (b : Bool) → is_left steps r ≡ b
     → (c : Bool) → sweeps_some s steps es e.moment r ≡ c → length (left_for s steps es) + count (has_acked es) ps ≤ length es
-    → length (cond (b || c) (e ∷ left_for s steps es) (left_for s steps es)) + count (λ w. nat_lt 0 (acked_after w e.ae (acked es w) r)) ps ≤ length (e ∷ es)
+    → length (cond (b || c) (e ∷ left_for s steps es) (reservation e r ++ left_for s steps es)) + count (λ w. nat_lt 0 (acked_after w e.ae (acked es w) r)) ps ≤ length (e ∷ es)
 step_for s steps e es ps (Ack n) once true is c so h = absurd cc
 step_for s steps e es ps (Ack n) once false is true so h = absurd cc
 step_for s steps e es ps (Ack n) once false is false so h = let some = one_more e.ae n (acked es) ps once in omega (arith, h, some)
+step_for s steps e es ps (Create v set) once true is c so h = omega (arith, h)
+step_for s steps e es ps (Create v set) once false is true so h = absurd cc
+step_for s steps e es ps (Create v set) once false is false so h = omega (arith, h)
 step_for s steps e es ps r once true is c so h = omega (arith, h)
 step_for s steps e es ps r once false is true so h = omega (arith, h)
 step_for s steps e es ps r once false is false so h = omega (arith, h)

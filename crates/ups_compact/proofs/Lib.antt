@@ -2,7 +2,6 @@ pub mod Accepting
 mod Acked
 pub mod Alike
 mod Answered
-mod Claimed
 mod Counting
 mod Covering
 mod Holding
@@ -10,6 +9,8 @@ pub mod Kept
 mod KeptRoom
 pub mod KeptTold
 mod Known
+mod Lifted
+mod Limits
 pub mod Needed
 mod Off
 pub mod Ordered

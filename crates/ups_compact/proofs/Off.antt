@@ -1,12 +1,22 @@
--- What is dropped is on none of the steps that stay.
-use Rattle.std.proofs.Common.{◌≡◌, ℕ, Bool, true, false, List, Option, None, Some, refl, ap}
+-- What is dropped is on none of the steps that stay. A reservation of a UID is dropped here too, since it says nothing of a step.
+use Rattle.std.proofs.Common.{◌≡◌, ℕ, Bool, true, false, cond, List, [], ◌∷◌, filter, Option, None, Some, refl, sym, ap, ◌∙◌}
 use Rattle.std.specs.Str.{bytes_eq}
+use Rattle.ups_life.specs.declared.entry.Entry.{Entry}
 use Rattle.ups_life.specs.declared.request.Request.{Request}
-use Rattle.ups_life.specs.declared.request.Request.TheVariants.{Create, Change, AskCancel, Set, Subscribe, Unsubscribe, Suspend, Ack, Sweep}
+use Rattle.ups_life.specs.declared.request.Request.TheVariants.{Create, Change, AskCancel, Set, Subscribe, Unsubscribe, Suspend, Ack, Sweep, Reserve}
 use Rattle.ups_life.specs.Steps.{is_step, is_on}
 use Rattle.ups_life.specs.Watching.{is_among}
 use Rattle.ups_life.proofs.Texts.{same_text}
-use Rattle.ups_compact.specs.Compacting.{is_about, is_left}
+use Rattle.ups_compact.specs.Compacting.{is_about, is_left, left}
+
+-- the request is left for these steps, and does more than reserve a UID
+abbrev pub does_some : {A : Type 0} → List (List ℕ) → Request A → Bool
+does_some steps (Reserve step) = false
+does_some steps request = is_left steps request
+
+-- what is left without the reservations
+abbrev pub plain : {A : Type 0} → List (List ℕ) → List (Entry A) → List (Entry A)
+plain steps es = filter (λ e. does_some steps e.request) es
 
 pub other : (steps : List (List ℕ)) (u v : List ℕ) → is_among u steps ≡ true → is_among v steps ≡ false → bytes_eq v u ≡ false
 other steps u v in' out = at (bytes_eq v u) refl
@@ -19,7 +29,7 @@ pub no_step : (steps : List (List ℕ)) (u : List ℕ) (step : Option (List ℕ)
 no_step steps u None in' out = refl
 no_step steps u (Some v) in' out = other steps u v in' out
 
-pub off : {A : Type 0} (steps : List (List ℕ)) (u : List ℕ) (r : Request A) → is_among u steps ≡ true → is_left steps r ≡ false → is_on u r ≡ false
+pub off : {A : Type 0} (steps : List (List ℕ)) (u : List ℕ) (r : Request A) → is_among u steps ≡ true → does_some steps r ≡ false → is_on u r ≡ false
 off steps u (Create step attributes) in' out = other steps u step in' out
 off steps u (Change step state transaction) in' out = no_step steps u step in' out
 off steps u (AskCancel step reasons) in' out = no_step steps u step in' out
@@ -29,3 +39,30 @@ off steps u (Unsubscribe place receiver) in' out = refl
 off steps u (Suspend receiver) in' out = refl
 off steps u (Ack upto) in' out = refl
 off steps u Sweep in' out = refl
+off steps u (Reserve step) in' out = refl
+
+-- what is left for the steps loses its reservations alone
+pub does_less : {A : Type 0} (steps : List (List ℕ)) (r : Request A) → is_left steps r ≡ false → does_some steps r ≡ false
+does_less steps (Reserve step) out = refl
+does_less steps (Create step attributes) out = out
+does_less steps (Change step state transaction) out = out
+does_less steps (AskCancel step reasons) out = out
+does_less steps (Set step transaction attributes) out = out
+does_less steps (Subscribe target receiver lock) out = out
+does_less steps (Unsubscribe place receiver) out = out
+does_less steps (Suspend receiver) out = out
+does_less steps (Ack upto) out = out
+does_less steps Sweep out = out
+
+pub plain_left : {A : Type 0} (steps : List (List ℕ)) (es : List (Entry A)) → plain steps (left steps es) ≡ plain steps es
+plain_left steps [] = refl
+plain_left {A} steps (e ∷ es) = at (is_left steps e.request) refl (plain_left steps es)
+  where
+    at : (b : Bool) → is_left steps e.request ≡ b → plain steps (left steps es) ≡ plain steps es → plain steps (cond b (e ∷ left steps es) (left steps es)) ≡ plain steps (e ∷ es)
+    at true is h = ap (λ (xs : List (Entry A)). cond (does_some steps e.request) (e ∷ xs) xs) h
+    at false is h = h ∙ sym (ap (λ (b : Bool). cond b (e ∷ plain steps es) (plain steps es)) (does_less steps e.request is))
+
+-- so what it says without them is what the history says
+module _ {A X : Type 0} (steps : List (List ℕ)) (f : List (Entry A) → X) (same : (xs : List (Entry A)) → f (plain steps xs) ≡ f xs) where
+  pub said_left : (es : List (Entry A)) → f (left steps es) ≡ f es
+  said_left es = sym (same (left steps es)) ∙ ap f (plain_left steps es) ∙ same es

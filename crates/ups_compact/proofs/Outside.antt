@@ -11,7 +11,7 @@ use Rattle.ups_life.specs.declared.event.Event.{Event}
 use Rattle.ups_life.specs.declared.event.Report.{Report}
 use Rattle.ups_life.specs.declared.peer.Peer.{Peer}
 use Rattle.ups_life.specs.declared.request.Request.{Request}
-use Rattle.ups_life.specs.declared.request.Request.TheVariants.{Create, Change, AskCancel, Set, Subscribe, Unsubscribe, Suspend, Ack, Sweep}
+use Rattle.ups_life.specs.declared.request.Request.TheVariants.{Create, Change, AskCancel, Set, Subscribe, Unsubscribe, Suspend, Ack, Sweep, Reserve}
 use Rattle.ups_life.specs.declared.watching.Subscription.{Subscription}
 use Rattle.ups_life.specs.Settings.{Settings}
 use Rattle.ups_life.specs.Steps.{is_step, named_step, row}
@@ -72,6 +72,7 @@ module _ {A : Type 0} (s : Settings) (w : List ℕ) (out : is_peer s.peers w ≡
       at (Set step t set) is = refl
       at (Ack upto) is = refl
       at Sweep is = refl
+      at (Reserve v) is = refl
 
   no_newly : (e : Entry A) (es : List (Entry A)) (u : List ℕ) → legal s es ≡ true → newly_covered s es e w u ≡ None
   no_newly e es u l = either (is_some (cover s.peers es w (row s es u))) None (cover s.peers es w (row s (e ∷ es) u)) None refl (no_cover es (row s (e ∷ es) u) l)
@@ -91,6 +92,7 @@ module _ {A : Type 0} (s : Settings) (w : List ℕ) (out : is_peer s.peers w ≡
       at (Suspend receiver) is before = before
       at (Ack upto) is before = before
       at Sweep is before = before
+      at (Reserve v) is before = before
 
   unwatched : (e : Entry A) (es : List (Entry A)) (step : Option (List ℕ)) (told : List ℕ → List Report) → legal s (e ∷ es) ≡ true → if_watched s es e w step told ≡ []
   unwatched e es None told l = refl
@@ -112,6 +114,7 @@ module _ {A : Type 0} (s : Settings) (w : List ℕ) (out : is_peer s.peers w ≡
       at (Suspend receiver) is = refl
       at (Ack upto) is = refl
       at Sweep is = refl
+      at (Reserve v) is = refl
 
   pub no_events : (es : List (Entry A)) → legal s es ≡ true → events s es w ≡ []
   no_events [] l = refl

@@ -11,7 +11,7 @@ use Rattle.ups_life.specs.declared.peer.Peer.{Peer}
 use Rattle.ups_life.specs.declared.request.Reply.{Reply}
 use Rattle.ups_life.specs.declared.request.Reply.TheVariants.{Status as Answered, AckAhead, AckStale}
 use Rattle.ups_life.specs.declared.request.Request.{Request}
-use Rattle.ups_life.specs.declared.request.Request.TheVariants.{Create, Change, AskCancel, Set, Subscribe, Unsubscribe, Suspend, Ack, Sweep}
+use Rattle.ups_life.specs.declared.request.Request.TheVariants.{Create, Change, AskCancel, Set, Subscribe, Unsubscribe, Suspend, Ack, Sweep, Reserve}
 use Rattle.ups_life.specs.Settings.{Settings}
 use Rattle.ups_life.specs.Watching.{held, is_peer}
 use Rattle.ups_life.specs.Events.{current, events, acked_after, acked, pending}
@@ -111,6 +111,8 @@ step steps e es ps (Suspend receiver) once true is h = omega (arith, h)
 step steps e es ps (Suspend receiver) once false is h = omega (arith, h)
 step steps e es ps Sweep once true is h = omega (arith, h)
 step steps e es ps Sweep once false is h = omega (arith, h)
+step steps e es ps (Reserve v) once true is h = omega (arith, h)
+step steps e es ps (Reserve v) once false is h = omega (arith, h)
 
 pub none_has : (A : Type 0) (ps : List Peer) → count (has_acked {A = A} []) ps ≡ 0
 none_has A [] = refl

@@ -13,25 +13,30 @@ use Rattle.ups_life.specs.declared.request.Reply.TheVariants.{Status as Answered
 use Rattle.ups_life.specs.declared.request.Request.{Request}
 use Rattle.ups_life.specs.declared.request.Request.TheVariants.{Create, Ack}
 use Rattle.ups_life.specs.Settings.{Settings}
-use Rattle.ups_life.specs.Steps.{used, claim}
-use Rattle.ups_life.specs.Watching.{held, is_held}
+use Rattle.ups_life.specs.Steps.{uses_uid, used, claim}
+use Rattle.ups_life.specs.Watching.{held}
 use Rattle.ups_life.specs.Events.{reports_of, events, acked_after, acked, pending}
 use Rattle.ups_life.specs.History.{accepts, acknowledged, repeats, decided, in_room, reply, legal}
 use Rattle.ups_life.proofs.Texts.{same_text}
 use Rattle.ups_life.proofs.Accepted.{said, succeeded, legal_head, legal_tail, created_fresh}
 use Rattle.ups_life.proofs.Receiving.{acked_made}
-use Rattle.ups_compact.specs.Compacting.{left_for, reported, told_to, to_tell, upto_for, compacted_for, has_title_twice, is_answered_alike, LosesNothing}
-use Rattle.ups_compact.specs.Shifting.{shift, raised, with_number_less, shifted, followed, unacked, is_renewal, IsShifted}
+use Rattle.ups_compact.specs.Compacting.{left_for, reported, told_to, to_tell, upto_for, compacted_for, has_title_twice, LosesNothing}
+use Rattle.ups_compact.specs.Shifting.{shift, raised, with_number_less, shifted, followed, unacked, IsShifted}
 use Rattle.ups_compact.proofs.Staying.{all_among}
 use Rattle.ups_compact.proofs.Acked.{with_each, row_of_acks, watch_acks, cover_acks, held_acks}
 use Rattle.ups_compact.proofs.Accepting.{accepted_left, both, join}
-use Rattle.ups_compact.proofs.Alike.{Says, decided_same, unused_nothing, says_then}
+use Rattle.ups_compact.proofs.Alike.{Says, is_ack, decided_with, unused_nothing, says_then}
 use Rattle.ups_compact.proofs.Told.{told_next}
 use Rattle.ups_compact.proofs.Telling.{reports_same}
 use Rattle.ups_compact.proofs.Pending.{latest}
-use Rattle.ups_compact.proofs.Kept.{claim_kept, row_of_kept, watch_kept, cover_kept, held_kept, used_before}
+use Rattle.ups_compact.proofs.Kept.{claim_kept, row_of_kept, watch_kept, cover_kept, held_kept, used_kept}
 use Rattle.ups_compact.proofs.KeptRoom.{legal_compacted_for, no_longer_for}
 use Rattle.ups_compact.proofs.Shifts.{drop_more, drop_twice, numbers_of, to_tell_is, pending_numbers, events_fewer, acked_shift, unacked_is}
+
+-- A COMPACTION FOR STEPS, whatever they are, frees no UID
+pub used_compacted_for : {A : Type 0} (caller moment : ℕ) (s : Settings) (steps : List (List ℕ)) (es : List (Entry A)) (u : List ℕ) → used (compacted_for caller moment s steps es) u ≡ used es u
+used_compacted_for {A} caller moment s steps es u =
+    with_each caller moment (upto_for s steps es) (λ (xs : List (Entry A)). used xs u) (λ w n xs. refl) s.peers (left_for s steps es) ∙ used_kept s steps u es
 
 -- A COMPACTION FOR STEPS that lose nothing stands for the history
 pub stands_compacted : {A : Type 0} (caller moment : ℕ) (s : Settings) (steps : List (List ℕ)) (es : List (Entry A)) → legal s es ≡ true → has_title_twice s.peers ≡ false → LosesNothing s steps es
@@ -44,8 +49,9 @@ stands_compacted {A} caller moment s steps es l once lose = record {
     claims = λ u h. with_each caller moment (upto_for s steps es) (λ (xs : List (Entry A)). claim xs u) (λ w n xs. refl) s.peers (left_for s steps es) ∙ claim_kept s steps u (lose.keeps_held u h) es;
     watched = λ w u h. watch_acks caller moment (upto_for s steps es) s.peers (left_for s steps es) s w u ∙ watch_kept s steps u (lose.keeps_held u h) es w;
     covered = λ w attributes. cover_acks caller moment (upto_for s steps es) s.peers (left_for s steps es) s.peers w attributes ∙ cover_kept s steps s.peers w attributes es;
-    used_too = λ u h. used_before s steps u es (sym (with_each caller moment (upto_for s steps es) (λ (xs : List (Entry A)). used xs u) (λ w n xs. refl) s.peers (left_for s steps es)) ∙ h);
+    used_too = λ u h. sym (used_compacted_for caller moment s steps es u) ∙ h;
   };
+  used_same = used_compacted_for caller moment s steps es;
   no_longer = no_longer_for caller moment s steps es once;
   no_more = λ w. events_fewer caller moment s steps es l once lose w;
   acked_too = λ w. acked_shift caller moment s steps es l once lose w;
@@ -73,14 +79,9 @@ module _ {A : Type 0} (s : Settings) (by log : List (Entry A)) (x : IsShifted s 
 
 -- ONE ENTRY MORE that is no acknowledgement
 
-abbrev is_ack : {A : Type 0} → Request A → Bool
-is_ack (Ack n) = true
-is_ack r = false
-
-alike : {A : Type 0} (s : Settings) (es : List (Entry A)) (r : Request A) → is_ack r ≡ false → said s es r ≡ Success → is_answered_alike s es r ≡ true
-alike s es (Ack n) other d = absurd cc
-alike s es (Create v set) other d = ap (λ (b : Bool). not b || is_held s es v) (created_fresh s es v set d)
-alike s es r other d = refl
+again_same : {A : Type 0} (s : Settings) (by log : List (Entry A)) → IsShifted s by log → (r : Request A) → repeats by r ≡ repeats log r
+again_same s by log x (Create v set) = x.used_same v
+again_same s by log x r = refl
 
 no_repeat : {A : Type 0} (s : Settings) (es : List (Entry A)) (r : Request A) → said s es r ≡ Success → repeats es r ≡ false
 no_repeat s es (Create v set) d = created_fresh s es v set d
@@ -111,7 +112,7 @@ module _ {A : Type 0} (s : Settings) (by log : List (Entry A)) (x : IsShifted s 
   before = legal_tail s e log l
 
   same_decided : decided s by e e.request ≡ decided s log e e.request
-  same_decided = decided_same s by log x.says e (alike s log e.request other (succeeded s e log l))
+  same_decided = decided_with s by log x.says e other (again_same s by log x e.request)
 
   accepted : legal s (e ∷ by) ≡ true
   accepted =
@@ -130,6 +131,7 @@ module _ {A : Type 0} (s : Settings) (by log : List (Entry A)) (x : IsShifted s 
   entry_next = record {
     legal_too = accepted;
     says = (says_then s e by log says accepted (no_repeat s log e.request (succeeded s e log l))).same;
+    used_same = λ u. ap (λ (b : Bool). uses_uid u e.request || b) (x.used_same u);
     no_longer = let long = x.no_longer in omega (arith, long);
     no_more = λ w.
         let mine = events_next s e by w in
@@ -249,6 +251,7 @@ module _ {A : Type 0} (s : Settings) (by log : List (Entry A)) (x : IsShifted s 
           covered = x.says.covered;
           used_too = x.says.used_too;
         };
+        used_same = x.used_same;
         no_longer = let long = x.no_longer in omega (arith, long);
         no_more = λ w.
             let mine = ap length (told_ours w) in
@@ -264,7 +267,7 @@ module _ {A : Type 0} (s : Settings) (by log : List (Entry A)) (x : IsShifted s 
       }
 
 -- EACH ENTRY that the log accepts
-abbrev put : {A : Type 0} → Entry A → Request A → Entry A
+abbrev pub put : {A : Type 0} → Entry A → Request A → Entry A
 put e r = record { caller = e.caller; ae = e.ae; moment = e.moment; request = r }
 
 pub stands_more : {A : Type 0} (s : Settings) (by log : List (Entry A)) (e : Entry A) → IsShifted s by log → legal s (e ∷ log) ≡ true → IsShifted s (shifted s by log e ∷ by) (e ∷ log)
@@ -275,38 +278,27 @@ stands_more {A} s by log e x l = at e.request l
     at r g = entry_next s by log x (put e r) g refl
 
 -- THE SAME REPLIES
-not_renewed : {A : Type 0} (s : Settings) (es : List (Entry A)) (r : Request A) → is_ack r ≡ false → is_renewal s es r ≡ false → is_answered_alike s es r ≡ true
-not_renewed s es (Ack n) other new = absurd cc
-not_renewed s es (Create v set) other new = at (used es v) (is_held s es v) new
-  where
-    at : (b c : Bool) → b && not c ≡ false → not b || c ≡ true
-    at true true h = refl
-    at true false h = absurd cc
-    at false c h = refl
-not_renewed s es r other new = refl
-
-pub decided_shifted : {A : Type 0} (s : Settings) (by log : List (Entry A)) (e : Entry A) → IsShifted s by log → is_renewal s log e.request ≡ false
+pub decided_shifted : {A : Type 0} (s : Settings) (by log : List (Entry A)) (e : Entry A) → IsShifted s by log
     → decided s by (shifted s by log e) (shifted s by log e).request ≡ decided s log e e.request
-decided_shifted {A} s by log e x new = at e.request new
+decided_shifted {A} s by log e x = at e.request
   where
-    at : (r : Request A) → is_renewal s log r ≡ false
-        → decided s by (put e (with_number_less (shift s by log e.ae) r)) (with_number_less (shift s by log e.ae) r) ≡ decided s log (put e r) r
-    at (Ack n) g = same_acknowledged s by log x e.ae n
-    at r g = decided_same s by log x.says (put e r) (not_renewed s log r refl g)
+    at : (r : Request A) → decided s by (put e (with_number_less (shift s by log e.ae) r)) (with_number_less (shift s by log e.ae) r) ≡ decided s log (put e r) r
+    at (Ack n) = same_acknowledged s by log x e.ae n
+    at r = decided_with s by log x.says (put e r) refl (again_same s by log x r)
 
-has_free : {A : Type 0} (s : Settings) (es : List (Entry A)) (q : Reply A) → nat_lt (length es) s.limit ≡ true → in_room s es q ≡ q
+pub has_free : {A : Type 0} (s : Settings) (es : List (Entry A)) (q : Reply A) → nat_lt (length es) s.limit ≡ true → in_room s es q ≡ q
 has_free {A} s es q free = ap (λ (b : Bool). cond (accepts q && not b) (Answered ResourceLimitation) q) free ∙ at (accepts q)
   where
     at : (b : Bool) → cond (b && false) (Answered ResourceLimitation) q ≡ q
     at true = refl
     at false = refl
 
-is_below : (n m k : ℕ) → n ≤ m → m < k → nat_lt n k ≡ true
+pub is_below : (n m k : ℕ) → n ≤ m → m < k → nat_lt n k ≡ true
 is_below n m k low high = let here : n < k = omega (arith, low, high) in grind (arith, nat_tests, here)
 
-pub reply_shifted : {A : Type 0} (s : Settings) (by log : List (Entry A)) (e : Entry A) → IsShifted s by log → length log < s.limit → is_renewal s log e.request ≡ false → reply s by (shifted s by log e) ≡ reply s log e
-reply_shifted s by log e x room new =
-    let here = decided_shifted s by log e x new in
+pub reply_shifted : {A : Type 0} (s : Settings) (by log : List (Entry A)) (e : Entry A) → IsShifted s by log → length log < s.limit → reply s by (shifted s by log e) ≡ reply s log e
+reply_shifted s by log e x room =
+    let here = decided_shifted s by log e x in
     has_free s by (decided s by (shifted s by log e) (shifted s by log e).request) (is_below (length by) (length log) s.limit x.no_longer room)
     ∙ here
     ∙ sym (has_free s log (decided s log e e.request) (is_below (length log) (length log) s.limit (omega arith) room))

@@ -19,11 +19,12 @@ use Rattle.ups_life.specs.History.{legal}
 use Rattle.ups_life.proofs.Texts.{same_text}
 use Rattle.ups_life.proofs.Current.{rising_current, later, all_later}
 use Rattle.ups_life.proofs.Receiving.{acked_made}
-use Rattle.ups_compact.specs.Compacting.{is_left, sweeps_some, left_for, reported, told_to, told_of_steps, to_tell, of_steps, acked_of_steps, above_zero, upto_for, compacted_for, has_title_twice, LosesNothing}
+use Rattle.ups_compact.specs.Compacting.{is_left, sweeps_some, reservation, left_for, reported, told_to, told_of_steps, to_tell, of_steps, acked_of_steps, above_zero, upto_for, compacted_for, has_title_twice, LosesNothing}
 use Rattle.ups_compact.specs.Shifting.{shift, raised, unacked}
 use Rattle.ups_compact.proofs.Acked.{events_acks, one_acked, none_acked, stays_unacked}
 use Rattle.ups_compact.proofs.Known.{Counted, events_counted, counted_rises}
 use Rattle.ups_compact.proofs.Pending.{latest, is_state_of, reported_current, same_count}
+use Rattle.ups_compact.proofs.Kept.{with_reservation}
 use Rattle.ups_compact.proofs.KeptTold.{told_kept}
 use Rattle.ups_compact.proofs.Outside.{no_events}
 
@@ -159,10 +160,10 @@ kept_acked {A} s steps w (e ∷ es) = at (is_left steps e.request) refl (sweeps_
     by_sweep n r h = absurd cc
 
     at : (b : Bool) → is_left steps e.request ≡ b → (c : Bool) → sweeps_some s steps es e.moment e.request ≡ c → acked (left_for s steps es) w ≡ 0
-        → acked (cond (b || c) (e ∷ left_for s steps es) (left_for s steps es)) w ≡ 0
+        → acked (cond (b || c) (e ∷ left_for s steps es) (reservation e e.request ++ left_for s steps es)) w ≡ 0
     at true is c so h = stays_unacked steps w e.ae (acked (left_for s steps es) w) e.request is ∙ h
     at false is true so h = by_sweep (acked (left_for s steps es) w) e.request so ∙ h
-    at false is false so h = h
+    at false is false so h = with_reservation e (λ (xs : List (Entry A)). acked xs w) (λ v xs. refl) e.request (left_for s steps es) ∙ h
 
 pub above_zero_is : (n : ℕ) → unwrap_or (above_zero n) 0 ≡ n
 above_zero_is n = at (nat_lt 0 n) refl

@@ -6,9 +6,9 @@ use Rattle.std.proofs.lemmas.List.Elements.{filter-append}
 use Rattle.ups_life.specs.declared.entry.Entry.{Entry}
 use Rattle.ups_life.specs.declared.row.Row.{Row}
 use Rattle.ups_life.specs.declared.request.Request.{Request}
-use Rattle.ups_life.specs.declared.request.Request.TheVariants.{Create, Change, AskCancel, Set, Subscribe, Unsubscribe, Suspend, Ack, Sweep}
+use Rattle.ups_life.specs.declared.request.Request.TheVariants.{Create, Change, AskCancel, Set, Subscribe, Unsubscribe, Suspend, Ack, Sweep, Reserve}
 use Rattle.ups_life.specs.Settings.{Settings}
-use Rattle.ups_life.specs.Steps.{creates, used, row_of}
+use Rattle.ups_life.specs.Steps.{uses_uid, used, row_of}
 use Rattle.ups_life.specs.Watching.{is_due, held, held_after, is_among, is_held, known}
 use Rattle.ups_life.specs.History.{legal}
 use Rattle.ups_life.proofs.Texts.{same_text, text_is_itself}
@@ -31,7 +31,7 @@ or_true true = refl
 or_true false = refl
 
 more_used : {A : Type 0} (e : Entry A) (es : List (Entry A)) (u : List ℕ) → used es u ≡ true → used (e ∷ es) u ≡ true
-more_used e es u h = ap (λ (b : Bool). creates u e.request || b) h ∙ or_true (creates u e.request)
+more_used e es u h = ap (λ (b : Bool). uses_uid u e.request || b) h ∙ or_true (uses_uid u e.request)
 
 pub stays_before : {A : Type 0} (s : Settings) → Away A s → (steps : List (List ℕ)) (e : Entry A) (es : List (Entry A)) → legal s (e ∷ es) ≡ true → Stays s steps (e ∷ es) → Stays s steps es
 stays_before {A} s law steps e es l stays u in' known = at (is_held s es u) refl
@@ -93,6 +93,8 @@ held_case s steps m ls es (Suspend receiver) h sweep true is = h
 held_case s steps m ls es (Suspend receiver) h sweep false is = h
 held_case s steps m ls es (Ack upto) h sweep true is = h
 held_case s steps m ls es (Ack upto) h sweep false is = h
+held_case s steps m ls es (Reserve v) h sweep true is = h
+held_case s steps m ls es (Reserve v) h sweep false is = h
 
 held_of : {A : Type 0} (s : Settings) (e : Entry A) (ls : List (Entry A)) (b : Bool) → held s (cond b (e ∷ ls) ls) ≡ cond b (held_after s ls e.moment (held s ls) e.request) (held s ls)
 held_of s e ls true = refl

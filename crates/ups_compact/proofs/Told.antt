@@ -14,7 +14,7 @@ use Rattle.ups_life.specs.declared.event.Report.{Report}
 use Rattle.ups_life.specs.declared.event.EventKind.TheVariants.{StateReport, ProgressReport, Assigned}
 use Rattle.ups_life.specs.declared.readiness.InputReadiness.{InputReadiness}
 use Rattle.ups_life.specs.declared.request.Request.{Request}
-use Rattle.ups_life.specs.declared.request.Request.TheVariants.{Create, Change, AskCancel, Set, Subscribe, Unsubscribe, Suspend, Ack, Sweep}
+use Rattle.ups_life.specs.declared.request.Request.TheVariants.{Create, Change, AskCancel, Set, Subscribe, Unsubscribe, Suspend, Ack, Sweep, Reserve}
 use Rattle.ups_life.specs.declared.watching.Subscription.{Subscription}
 use Rattle.ups_life.specs.declared.watching.Target.TheVariants.{Single, Global, Filtered}
 use Rattle.ups_life.specs.Settings.{Settings}
@@ -88,6 +88,7 @@ told_of_one s es e u (Unsubscribe place receiver) = tt
 told_of_one s es e u (Suspend receiver) = tt
 told_of_one s es e u (Ack upto) = tt
 told_of_one s es e u Sweep = tt
+told_of_one s es e u (Reserve step) = tt
 
 pub watched_of : (u : List ℕ) (b c : Bool) (xs : List Report) (x : Report) → AreOf u xs → x.step ≡ u → AreOf u (cond b xs (only_if c x))
 watched_of u true c xs x h k = h
@@ -128,6 +129,7 @@ same_told s u e xs es (Unsubscribe place receiver) p q = refl
 same_told s u e xs es (Suspend receiver) p q = refl
 same_told s u e xs es (Ack upto) p q = refl
 same_told s u e xs es Sweep p q = refl
+same_told s u e xs es (Reserve step) p q = refl
 
 -- REPORTS OF A SUBSCRIPTION: of each step held that it takes in
 
@@ -206,6 +208,7 @@ kept_reports s law steps e es w (Unsubscribe place receiver) l stays a = refl
 kept_reports s law steps e es w (Suspend receiver) l stays a = refl
 kept_reports s law steps e es w (Ack upto) l stays a = refl
 kept_reports s law steps e es w Sweep l stays a = refl
+kept_reports s law steps e es w (Reserve step) l stays a = refl
 
 pub gone_reports : {A : Type 0} (s : Settings) (steps : List (List ℕ)) (e : Entry A) (es : List (Entry A)) (w : List ℕ) (r : Request A) → is_left steps r ≡ false → told_of_steps steps (reports_of s es e w r) ≡ []
 gone_reports s steps e es w (Create v set) a =
@@ -222,6 +225,7 @@ gone_reports s steps e es w (Unsubscribe place receiver) a = refl
 gone_reports s steps e es w (Suspend receiver) a = refl
 gone_reports s steps e es w (Ack upto) a = refl
 gone_reports s steps e es w Sweep a = refl
+gone_reports s steps e es w (Reserve step) a = refl
 
 told_case : {A : Type 0} (s : Settings) → Away A s → (steps : List (List ℕ)) (e : Entry A) (es : List (Entry A)) (w : List ℕ) → legal s es ≡ true → Stays s steps es → told_to s (left steps es) w ≡ told_of_steps steps (told_to s es w)
     → (b : Bool) → is_left steps e.request ≡ b → told_to s (cond b (e ∷ left steps es) (left steps es)) w ≡ told_of_steps steps (told_to s (e ∷ es) w)

@@ -1,5 +1,5 @@
 -- Worked rows: a short day, what is left of it when it is compacted, and what is pending before and after, computed by the check.
-use Rattle.std.proofs.Common.{◌≡◌, ℕ, true, false, List, [], ◌∷◌, refl}
+use Rattle.std.proofs.Common.{◌≡◌, ℕ, true, false, List, [], ◌∷◌, map, refl}
 use Rattle.std.specs.Prelude.{Some, None, codes, pos}
 use Rattle.ups_dataset.specs.declared.tag.Tag.{Tag}
 use Rattle.ups_dataset.specs.declared.vr.Vr.{Vr}
@@ -14,7 +14,7 @@ use Rattle.ups_life.specs.declared.event.EventKind.{EventKind}
 use Rattle.ups_life.specs.declared.event.EventKind.TheVariants.{StateReport, ProgressReport}
 use Rattle.ups_life.specs.declared.readiness.InputReadiness.TheVariants.{Ready}
 use Rattle.ups_life.specs.declared.request.Request.{Request}
-use Rattle.ups_life.specs.declared.request.Request.TheVariants.{Create, Change, AskCancel, Set, Subscribe, Ack, Sweep}
+use Rattle.ups_life.specs.declared.request.Request.TheVariants.{Create, Change, AskCancel, Set, Subscribe, Ack, Sweep, Reserve}
 use Rattle.ups_life.specs.declared.request.Reply.TheVariants.{Status as Answered}
 use Rattle.ups_life.specs.declared.request.Transaction.TheVariants.{Proper}
 use Rattle.ups_life.specs.declared.watching.Target.TheVariants.{Global}
@@ -28,6 +28,7 @@ use Rattle.ups_life.specs.Events.{pending}
 use Rattle.ups_life.specs.History.{reply, legal}
 use Rattle.ups_compact.specs.Compacting.{compact, to_tell, upto, compacted, left_for, compacted_for, steps_needed}
 use Rattle.ups_compact.specs.Shifting.{shift, shifted}
+use Rattle.ups_compact.specs.Course.{Turn, Entered, Compacted, log_of, kept_of, is_course}
 
 -- two watchers
 abbrev w1 : List ℕ
@@ -156,7 +157,7 @@ what_was_to_be_told = refl
 who_holds : holder short_day u1 ≡ Some (record { caller = 3; ae = codes "CAD" })
 who_holds = refl
 
--- the UID of u2 was used, and is free again
+-- the UID of u2 was used, and is free again: this history forgets it
 abbrev again : Call
 again = created u2 400
 
@@ -205,13 +206,14 @@ fewer_are_needed : steps_needed site calm_day ≡ u1 ∷ u3 ∷ u3 ∷ []
 unfolding cancellation stamp begun date_stamp time_stamp offset_stamp year_on month_on
 fewer_are_needed = refl
 
--- of the six events acknowledged three are about u1: so the third is acknowledged
+-- of the six events acknowledged three are about u1: so the third is acknowledged; where u2 was created its UID is reserved
 abbrev shorter_day : List Call
 shorter_day =
     record { caller = 9; ae = w1; moment = 300; request = Ack 3 }
     ∷ created u3 150
     ∷ gone_on
     ∷ claimed
+    ∷ by (codes "RIS") 20 (Reserve u2)
     ∷ created u1 10
     ∷ subscribed
     ∷ []
@@ -221,7 +223,7 @@ unfolding cancellation stamp begun date_stamp time_stamp offset_stamp year_on mo
 its_number_is_less = refl
 
 -- the event that is pending has the number 7, and 4 here: so an acknowledgement of it is entered with 4
-what_is_shifted : (pending site calm_day w1 ≡ event 7 7 StateReport u3 Scheduled ∷ []) × (pending site shorter_day w1 ≡ event 4 4 StateReport u3 Scheduled ∷ [])
+what_is_shifted : (pending site calm_day w1 ≡ event 7 7 StateReport u3 Scheduled ∷ []) × (pending site shorter_day w1 ≡ event 4 5 StateReport u3 Scheduled ∷ [])
 unfolding cancellation stamp begun date_stamp time_stamp offset_stamp year_on month_on
 what_is_shifted = (refl, refl)
 
@@ -232,3 +234,75 @@ by_three = refl
 the_same_acknowledgement : shifted site shorter_day calm_day (by w1 310 (Ack 7)) ≡ by w1 310 (Ack 4)
 unfolding cancellation stamp begun date_stamp time_stamp offset_stamp year_on month_on
 the_same_acknowledgement = refl
+
+-- the UID of u2 stays used: a second creation under it is refused after the compaction as before it
+stays_used : (reply site calm_day again ≡ Answered DuplicateSopInstance) × (reply site shorter_day again ≡ Answered DuplicateSopInstance)
+unfolding moment day_number days_of_month field is_date is_time date_number second_of_day microsecond_of offset_of signed_offset cancellation stamp begun date_stamp time_stamp offset_stamp year_on month_on
+stays_used = (refl, refl)
+
+-- a second compaction keeps the reservation
+it_stays_reserved : left_for site (u1 ∷ u3 ∷ []) shorter_day ≡ created u3 150 ∷ gone_on ∷ claimed ∷ by (codes "RIS") 20 (Reserve u2) ∷ created u1 10 ∷ subscribed ∷ []
+it_stays_reserved = refl
+
+-- TWO COMPACTIONS with requests between them, newest turn first: of the calm day; then, when the first watcher has acknowledged
+-- all and u3 is canceled and swept. Behind both u1 is to be canceled, and the first watcher acknowledges that.
+abbrev turns : List (Turn (Unit {0}))
+turns =
+    Entered (by w1 520 (Ack 4))
+    ∷ Entered (by (codes "DOC") 510 (AskCancel (Some u1) []))
+    ∷ Compacted 9 500
+    ∷ Entered (by (codes "RIS") 400 Sweep)
+    ∷ Entered (by w1 330 (Ack 6))
+    ∷ Entered (by (codes "DOC") 320 (AskCancel (Some u3) []))
+    ∷ Entered (by w1 310 (Ack 4))
+    ∷ Compacted 9 300
+    ∷ map (λ (e : Call). Entered e) calm_day
+
+abbrev shortest_day : List Call
+shortest_day =
+    by w1 520 (Ack 4)
+    ∷ by (codes "DOC") 510 (AskCancel (Some u1) [])
+    ∷ record { caller = 9; ae = w1; moment = 500; request = Ack 3 }
+    ∷ by (codes "RIS") 150 (Reserve u3)
+    ∷ gone_on
+    ∷ claimed
+    ∷ by (codes "RIS") 20 (Reserve u2)
+    ∷ created u1 10
+    ∷ subscribed
+    ∷ []
+
+what_is_left_of_it : kept_of site turns ≡ shortest_day
+unfolding cancellation stamp begun date_stamp time_stamp offset_stamp year_on month_on
+what_is_left_of_it = refl
+
+-- in its log the acknowledgements have the numbers that the events have there: 7, 9 and 10
+abbrev whole_log : List Call
+whole_log =
+    by w1 520 (Ack 10)
+    ∷ by (codes "DOC") 510 (AskCancel (Some u1) [])
+    ∷ by (codes "RIS") 400 Sweep
+    ∷ by w1 330 (Ack 9)
+    ∷ by (codes "DOC") 320 (AskCancel (Some u3) [])
+    ∷ by w1 310 (Ack 7)
+    ∷ calm_day
+
+its_log : log_of site turns ≡ whole_log
+unfolding cancellation stamp begun date_stamp time_stamp offset_stamp year_on month_on
+its_log = refl
+
+by_six : shift site shortest_day whole_log w1 ≡ 6
+unfolding cancellation stamp begun date_stamp time_stamp offset_stamp year_on month_on
+by_six = refl
+
+each_was_accepted : is_course site turns ≡ true
+unfolding moment day_number days_of_month field is_date is_time date_number second_of_day microsecond_of offset_of signed_offset cancellation stamp begun date_stamp time_stamp offset_stamp year_on month_on
+each_was_accepted = refl
+
+-- both UIDs of removed steps stay used, for the history that is left as for the log
+both_stay_used : (reply site shortest_day (created u2 600) ≡ Answered DuplicateSopInstance) × (reply site shortest_day (created u3 600) ≡ Answered DuplicateSopInstance)
+unfolding moment day_number days_of_month field is_date is_time date_number second_of_day microsecond_of offset_of signed_offset
+both_stay_used = (refl, refl)
+
+both_are_used : (reply site whole_log (created u2 600) ≡ Answered DuplicateSopInstance) × (reply site whole_log (created u3 600) ≡ Answered DuplicateSopInstance)
+unfolding moment day_number days_of_month field is_date is_time date_number second_of_day microsecond_of offset_of signed_offset cancellation stamp begun date_stamp time_stamp offset_stamp year_on month_on
+both_are_used = (refl, refl)

@@ -1,8 +1,9 @@
 -- A history without the requests about steps that are no longer held. Histories here have their newest entry first.
 use Rattle.std.specs.Prelude.{◌≡◌, ℕ, ◌-◌, Bool, true, false, not, ◌||◌, nat_lt, List, [], ◌∷◌, ◌++◌, length, map, filter, take, Option, None, Some, if◌then◌else◌}
 use Rattle.std.specs.List.{AllByRecursion}
+use Rattle.std.specs.Str.{bytes_eq}
 use Rattle.ups_life.specs.declared.request.Request.{Request}
-use Rattle.ups_life.specs.declared.request.Request.TheVariants.{Create, Ack, Sweep}
+use Rattle.ups_life.specs.declared.request.Request.TheVariants.{Create, Ack, Sweep, Reserve}
 use Rattle.ups_life.specs.declared.entry.Entry.{Entry}
 use Rattle.ups_life.specs.declared.event.Event.{Event}
 use Rattle.ups_life.specs.declared.peer.Peer.{Peer}
@@ -89,6 +90,16 @@ with_acks caller moment number (p ∷ ps) es = with_acks caller moment number ps
 abbrev pub compacted : {A : Type 0} → ℕ → ℕ → Settings → List (Entry A) → List (Entry A)
 compacted caller moment s es = with_acks caller moment (upto s es) s.peers (compact s es)
 
+-- the request reserves this UID
+abbrev pub reserves : {A : Type 0} → List ℕ → Request A → Bool
+reserves u (Reserve step) = bytes_eq step u
+reserves u request = false
+
+-- some entry reserves this UID: it does so in the compacted history too
+abbrev pub reserved : {A : Type 0} → List (Entry A) → List ℕ → Bool
+reserved [] u = false
+reserved (e ∷ es) u = reserves u e.request || reserved es u
+
 -- two of these peers have the same title
 abbrev pub has_title_twice : List Peer → Bool
 has_title_twice [] = false
@@ -112,10 +123,15 @@ sweeps_some s steps es moment request = false
 abbrev pub is_left_for : {A : Type 0} → Settings → List (List ℕ) → Entry A → List (Entry A) → Bool
 is_left_for s steps e es = is_left steps e.request || sweeps_some s steps es e.moment e.request
 
--- the entries that are kept for these steps
+-- what remains of an entry that is not kept: of a creation, that the UID of its step is used (PS3.4 CC.2.5)
+abbrev pub reservation : {A : Type 0} → Entry A → Request A → List (Entry A)
+reservation e (Create step attributes) = record { caller = e.caller; ae = e.ae; moment = e.moment; request = Reserve step } ∷ []
+reservation e request = []
+
+-- the entries that are kept for these steps, and what remains of the others
 abbrev pub left_for : {A : Type 0} → Settings → List (List ℕ) → List (Entry A) → List (Entry A)
 left_for s steps [] = []
-left_for s steps (e ∷ es) = if is_left_for s steps e es then e ∷ left_for s steps es else left_for s steps es
+left_for s steps (e ∷ es) = if is_left_for s steps e es then e ∷ left_for s steps es else reservation e e.request ++ left_for s steps es
 
 -- how many of the events that w has acknowledged are about these steps; events are numbered from 1
 abbrev pub acked_of_steps : {A : Type 0} → Settings → List (List ℕ) → List (Entry A) → List ℕ → ℕ

@@ -1,7 +1,7 @@
 //! The laws of compact histories, which say the same as the original ones. Each is the contract of a function that does
 //! nothing.
 
-ghost use Rattle.std.specs.Prelude.{◌≡◌, ◌≤◌, ◌<◌, ◌+◌, ◌++◌, [], ◌∷◌, ℕ, List, Option, length, map, true, false};
+ghost use Rattle.std.specs.Prelude.{◌≡◌, ◌≤◌, ◌<◌, ◌+◌, ◌||◌, ◌++◌, [], ◌∷◌, ℕ, List, Option, length, map, true, false};
 ghost use Rattle.ups_dataset.specs.declared.tag.Tag.{Tag};
 ghost use Rattle.ups_dataset.specs.Data.{El};
 ghost use Rattle.ups_match.specs.Matching.{KeySet};
@@ -15,9 +15,9 @@ ghost use Rattle.ups_life.specs.Filters.{filter_now};
 ghost use Rattle.ups_life.specs.Events.{events, acked, pending};
 ghost use Rattle.ups_life.specs.History.{reply, decided, legal, got};
 ghost use Rattle.ups_life.specs.Worklist.{worklist};
-ghost use Rattle.ups_compact.specs.Compacting.{compact, told_to, told_of_steps, to_tell, compacted, has_title_twice, is_answered_alike, compacted_for, steps_needed, LosesNothing};
-ghost use Rattle.ups_compact.specs.Course.{Turn, log_of, kept_of, is_course, is_anew, SaysSame, TellsSame, IsLeftOf};
-ghost use Rattle.ups_compact.specs.Shifting.{shift, raised, shifted, followed, is_renewal, IsShifted};
+ghost use Rattle.ups_compact.specs.Compacting.{compact, told_to, told_of_steps, to_tell, compacted, reserved, has_title_twice, is_answered_alike, compacted_for, steps_needed, LosesNothing};
+ghost use Rattle.ups_compact.specs.Course.{Turn, log_of, kept_of, is_course, with_limit, IsLeftOf};
+ghost use Rattle.ups_compact.specs.Shifting.{shift, raised, shifted, lifted, followed, IsShifted};
 
 use std::alloc::Allocator;
 use ups_life::laws::a_removed_step_stays_away;
@@ -114,50 +114,11 @@ pub fn a_request_is_answered_as_before<A: Allocator + Copy>()
     a_removed_step_stays_away::<A>();
 }
 
-/// Does nothing at run time: its contract tells a proof that a compaction forgets removed steps: a UID is used if it is
-/// that of a held step, and that of each removed step is free again.
+/// Does nothing at run time: its contract tells a proof that this compaction forgets removed steps: a UID is used if it
+/// is that of a held step, or if an entry reserves it. That of each other removed step is free again.
 pub fn the_uids_of_removed_steps_are_free_again<A: Allocator + Copy>()
-    ensures { (caller moment : ℕ) → (s : Settings) → (es : List (Entry A)) → (u : List ℕ) → used (compacted caller moment s es) u ≡ is_held s es u }
+    ensures { (caller moment : ℕ) → (s : Settings) → (es : List (Entry A)) → (u : List ℕ) → used (compacted caller moment s es) u ≡ (is_held s es u || reserved es u) }
 {}
-
-/// Does nothing at run time: its contract tells a proof that a history that is compacted while it grows, any number of
-/// times, goes on to say what the log of all its entries says: which steps are held, in order, and of each its
-/// attributes, its state, its claim, when it became final, and who watches it; and each global subscription. It tells
-/// each watcher, without numbers, what the log tells it of the steps that it still knows. If there is room, each later
-/// request is answered as by the log, N-GET and queries too, except acknowledgments. All this holds as long as no step
-/// is created under the UID of an earlier one.
-pub fn what_grows_after_a_compaction_says_the_same<A: Allocator + Copy>()
-    ensures same { (s : Settings) → (turns : List (Turn A)) → is_course s turns ≡ true → is_anew turns ≡ true → SaysSame s (kept_of s turns) (log_of turns) }
-    ensures told { (s : Settings) → (turns : List (Turn A)) → is_course s turns ≡ true → is_anew turns ≡ true → TellsSame s (kept_of s turns) (log_of turns) }
-    ensures reply { (s : Settings) → (turns : List (Turn A)) → (e : Entry A) → is_course s turns ≡ true → is_anew turns ≡ true
-        → is_answered_alike s (log_of turns) e.request ≡ true → decided s (kept_of s turns) e e.request ≡ decided s (log_of turns) e e.request }
-    ensures got { (s : Settings) → (turns : List (Turn A)) → (step : Option (List ℕ)) → (tags : List Tag) → is_course s turns ≡ true → is_anew turns ≡ true → got s (kept_of s turns) step tags ≡ got s (log_of turns) step tags }
-    ensures found { (s : Settings) → (turns : List (Turn A)) → (keys : KeySet) → is_course s turns ≡ true → is_anew turns ≡ true → worklist s (kept_of s turns) keys ≡ worklist s (log_of turns) keys }
-{
-    a_removed_step_stays_away::<A>();
-}
-
-/// Does nothing at run time: its contract tells a proof which histories, oldest entry first, stand for a log: a legal
-/// one for itself; one that stands for a log, with one more entry that it accepts, for the log with that entry; and one
-/// that is compacted for the same log as before. What stands for a log says the same, as long as no step was created
-/// under the UID of an earlier one.
-pub fn what_stands_for_a_log<A: Allocator + Copy>()
-    ensures itself { (s : Settings) → (history : List (Entry A)) → legal s (past history) ≡ true → IsLeftOf s history history }
-    ensures more { (s : Settings) → (by log : List (Entry A)) → (e : Entry A) → IsLeftOf s by log → legal s (past (by ++ e ∷ [])) ≡ true → IsLeftOf s (by ++ e ∷ []) (log ++ e ∷ []) }
-    ensures less { (caller moment : ℕ) → (s : Settings) → (by log : List (Entry A)) → has_title_twice s.peers ≡ false → IsLeftOf s by log → IsLeftOf s (past (compacted caller moment s (past by))) log }
-    ensures legal { (s : Settings) → (by log : List (Entry A)) → IsLeftOf s by log → legal s (past by) ≡ true }
-    ensures says { (s : Settings) → (by log : List (Entry A)) → (k : IsLeftOf s by log) → is_anew k.turns ≡ true → SaysSame s (past by) (past log) }
-{
-    a_removed_step_stays_away::<A>();
-}
-
-/// Does nothing at run time: its contract tells a proof that in a log a step is claimed once at most, however often the
-/// history was compacted (PS3.4 CC.1.1), as long as no step is created under the UID of an earlier one.
-pub fn a_step_is_claimed_once_all_along<A: Allocator + Copy>()
-    ensures { (s : Settings) → (turns : List (Turn A)) → (u : List ℕ) → is_course s turns ≡ true → is_anew turns ≡ true → length (claims (log_of turns) u) ≤ 1 }
-{
-    a_removed_step_stays_away::<A>();
-}
 
 /// Does nothing at run time: its contract tells a proof that a history may be compacted for more steps than those held.
 /// If they are all that are held and all of which an event is pending for a peer, removed or not, nothing is lost: the
@@ -166,6 +127,12 @@ pub fn with_the_steps_needed_nothing_is_lost<A: Allocator + Copy>()
     ensures needed { (s : Settings) → (es : List (Entry A)) → LosesNothing s (steps_needed s es) es }
     ensures stands { (caller moment : ℕ) → (s : Settings) → (steps : List (List ℕ)) → (es : List (Entry A)) → legal s es ≡ true → has_title_twice s.peers ≡ false → LosesNothing s steps es
         → IsShifted s (compacted_for caller moment s steps es) es }
+{}
+
+/// Does nothing at run time: its contract tells a proof that a history compacted for some steps, whichever they are,
+/// frees no UID: the same ones are used, those of removed steps too (PS3.4 CC.2.5).
+pub fn a_compaction_frees_no_uid<A: Allocator + Copy>()
+    ensures { (caller moment : ℕ) → (s : Settings) → (steps : List (List ℕ)) → (es : List (Entry A)) → (u : List ℕ) → used (compacted_for caller moment s steps es) u ≡ used es u }
 {}
 
 /// Does nothing at run time: its contract tells a proof by how much the numbers of a watcher's events are less in a
@@ -188,13 +155,74 @@ pub fn what_stands_with_less_numbers_lasts<A: Allocator + Copy>()
 {}
 
 /// Does nothing at run time: its contract tells a proof that a history that stands for a log decides each request as the
-/// log does, an acknowledgement by its lesser number, and replies the same if the log has room; except the creation of a
-/// step under the UID of a removed one. The answers to an N-GET and a query are the same (PS3.4 CC.2.7, CC.2.8).
+/// log does, an acknowledgement by its lesser number, and replies the same if the log has room. The answers to an N-GET
+/// and a query are the same (PS3.4 CC.2.7, CC.2.8).
 pub fn what_stands_with_less_numbers_replies_the_same<A: Allocator + Copy>()
-    ensures decided { (s : Settings) → (by log : List (Entry A)) → (e : Entry A) → IsShifted s by log → is_renewal s log e.request ≡ false
+    ensures decided { (s : Settings) → (by log : List (Entry A)) → (e : Entry A) → IsShifted s by log
         → decided s by (shifted s by log e) (shifted s by log e).request ≡ decided s log e e.request }
-    ensures reply { (s : Settings) → (by log : List (Entry A)) → (e : Entry A) → IsShifted s by log → is_renewal s log e.request ≡ false → length log < s.limit
+    ensures reply { (s : Settings) → (by log : List (Entry A)) → (e : Entry A) → IsShifted s by log → length log < s.limit
         → reply s by (shifted s by log e) ≡ reply s log e }
     ensures got { (s : Settings) → (by log : List (Entry A)) → (step : Option (List ℕ)) → (tags : List Tag) → IsShifted s by log → got s by step tags ≡ got s log step tags }
     ensures found { (s : Settings) → (by log : List (Entry A)) → (keys : KeySet) → IsShifted s by log → worklist s by keys ≡ worklist s log keys }
+{}
+
+/// Does nothing at run time: its contract tells a proof that a legal history stands for itself, and that what stands
+/// for a history stands for each log that the history stands for.
+pub fn what_stands_for_it_stands_for_its_log<A: Allocator + Copy>()
+    ensures itself { (s : Settings) → (es : List (Entry A)) → legal s es ≡ true → IsShifted s es es }
+    ensures through { (s : Settings) → (a b c : List (Entry A)) → IsShifted s a b → IsShifted s b c → IsShifted s a c }
+{}
+
+/// Does nothing at run time: its contract tells a proof that a log with room accepts what a history that stands for it
+/// accepts, an acknowledgement with the number that its event has in the log, and that the history with the one entry
+/// stands for the log with the other.
+pub fn a_log_accepts_what_stands_for_it_accepts<A: Allocator + Copy>()
+    ensures legal { (s : Settings) → (by log : List (Entry A)) → (e : Entry A) → IsShifted s by log → legal s log ≡ true → legal s (e ∷ by) ≡ true → length log < s.limit
+        → legal s (lifted s by log e ∷ log) ≡ true }
+    ensures stands { (s : Settings) → (by log : List (Entry A)) → (e : Entry A) → IsShifted s by log → legal s log ≡ true → legal s (e ∷ by) ≡ true → length log < s.limit
+        → IsShifted s (e ∷ by) (lifted s by log e ∷ log) }
+{}
+
+/// Does nothing at run time: its contract tells a proof that a history that is compacted for the steps needed, any
+/// number of times while it grows, stands for the log of all that was ever entered. The log is legal where there is room
+/// for it, and in it a step is claimed once at most (PS3.4 CC.1.1). Of the history and the log, the same steps are held,
+/// the same UIDs are used (PS3.4 CC.2.5), and for each watcher the same events are pending, with numbers that are less by
+/// one shift (PS3.4 CC.2.4). Each later request is decided as by the log, an acknowledgement by its greater number there,
+/// and replied to as by it if both have room, the log perhaps by a greater limit. The answers to an N-GET and a query are
+/// the same (PS3.4 CC.2.7, CC.2.8).
+pub fn however_often_compacted_a_history_stands_for_its_log<A: Allocator + Copy>()
+    ensures stands { (s : Settings) → (turns : List (Turn A)) → has_title_twice s.peers ≡ false → is_course s turns ≡ true → IsShifted s (kept_of s turns) (log_of s turns) }
+    ensures legal { (s : Settings) → (turns : List (Turn A)) → has_title_twice s.peers ≡ false → is_course s turns ≡ true → length (log_of s turns) ≤ s.limit → legal s (log_of s turns) ≡ true }
+    ensures legal_with_room { (s : Settings) → (turns : List (Turn A)) → (limit : ℕ) → has_title_twice s.peers ≡ false → is_course s turns ≡ true → length (log_of s turns) ≤ limit
+        → legal (with_limit limit s) (log_of s turns) ≡ true }
+    ensures claimed { (s : Settings) → (turns : List (Turn A)) → (u : List ℕ) → has_title_twice s.peers ≡ false → is_course s turns ≡ true → length (claims (log_of s turns) u) ≤ 1 }
+    ensures held { (s : Settings) → (turns : List (Turn A)) → has_title_twice s.peers ≡ false → is_course s turns ≡ true → held s (kept_of s turns) ≡ held s (log_of s turns) }
+    ensures used { (s : Settings) → (turns : List (Turn A)) → (u : List ℕ) → has_title_twice s.peers ≡ false → is_course s turns ≡ true → used (kept_of s turns) u ≡ used (log_of s turns) u }
+    ensures told { (s : Settings) → (turns : List (Turn A)) → (w : List ℕ) → has_title_twice s.peers ≡ false → is_course s turns ≡ true → to_tell s (kept_of s turns) w ≡ to_tell s (log_of s turns) w }
+    ensures numbers { (s : Settings) → (turns : List (Turn A)) → (w : List ℕ) → has_title_twice s.peers ≡ false → is_course s turns ≡ true
+        → raised (shift s (kept_of s turns) (log_of s turns) w) (pending s (kept_of s turns) w) ≡ map (λ (x : Event). x.number) (pending s (log_of s turns) w) }
+    ensures decided { (s : Settings) → (turns : List (Turn A)) → (e : Entry A) → has_title_twice s.peers ≡ false → is_course s turns ≡ true
+        → decided s (kept_of s turns) e e.request ≡ decided s (log_of s turns) (lifted s (kept_of s turns) (log_of s turns) e) (lifted s (kept_of s turns) (log_of s turns) e).request }
+    ensures reply { (s : Settings) → (turns : List (Turn A)) → (e : Entry A) → has_title_twice s.peers ≡ false → is_course s turns ≡ true → length (log_of s turns) < s.limit
+        → reply s (kept_of s turns) e ≡ reply s (log_of s turns) (lifted s (kept_of s turns) (log_of s turns) e) }
+    ensures reply_with_room { (s : Settings) → (turns : List (Turn A)) → (e : Entry A) → (limit : ℕ) → has_title_twice s.peers ≡ false → is_course s turns ≡ true
+        → length (kept_of s turns) < s.limit → length (log_of s turns) < limit → reply s (kept_of s turns) e ≡ reply (with_limit limit s) (log_of s turns) (lifted s (kept_of s turns) (log_of s turns) e) }
+    ensures got { (s : Settings) → (turns : List (Turn A)) → (step : Option (List ℕ)) → (tags : List Tag) → has_title_twice s.peers ≡ false → is_course s turns ≡ true
+        → got s (kept_of s turns) step tags ≡ got s (log_of s turns) step tags }
+    ensures found { (s : Settings) → (turns : List (Turn A)) → (keys : KeySet) → has_title_twice s.peers ≡ false → is_course s turns ≡ true → worklist s (kept_of s turns) keys ≡ worklist s (log_of s turns) keys }
+{}
+
+/// Does nothing at run time: its contract tells a proof which histories are left of a log, oldest entry first: a legal
+/// one of itself; one that is left of a log, with one more entry that it accepts, of the log with that entry, an
+/// acknowledgement with the number that its event has there; and one that is compacted for the steps needed, of the same
+/// log as before. What is left is legal and stands for the log, which is legal where there is room for it.
+pub fn what_is_left_of_a_log_stands_for_it<A: Allocator + Copy>()
+    ensures itself { (s : Settings) → (history : List (Entry A)) → legal s (past history) ≡ true → IsLeftOf s history history }
+    ensures more { (s : Settings) → (by log : List (Entry A)) → (e : Entry A) → IsLeftOf s by log → legal s (past (by ++ e ∷ [])) ≡ true
+        → IsLeftOf s (by ++ e ∷ []) (log ++ lifted s (past by) (past log) e ∷ []) }
+    ensures less { (caller moment : ℕ) → (s : Settings) → (by log : List (Entry A)) → has_title_twice s.peers ≡ false → IsLeftOf s by log
+        → IsLeftOf s (past (compacted_for caller moment s (steps_needed s (past by)) (past by))) log }
+    ensures legal { (s : Settings) → (by log : List (Entry A)) → IsLeftOf s by log → legal s (past by) ≡ true }
+    ensures stands { (s : Settings) → (by log : List (Entry A)) → has_title_twice s.peers ≡ false → IsLeftOf s by log → IsShifted s (past by) (past log) }
+    ensures legal_with_room { (s : Settings) → (by log : List (Entry A)) → (limit : ℕ) → has_title_twice s.peers ≡ false → IsLeftOf s by log → length log ≤ limit → legal (with_limit limit s) (past log) ≡ true }
 {}

@@ -4,9 +4,11 @@
 
 mod acknowledging;
 pub mod laws;
+mod reserving;
 mod steps;
 mod turn;
 
 pub use acknowledging::{known_up_to, pays, reports_known_up_to};
+pub use reserving::reservation;
 pub use steps::KeptSteps;
 pub use turn::Turn;

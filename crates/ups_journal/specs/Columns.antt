@@ -6,7 +6,7 @@ use Rattle.ups_pdu.specs.declared.syntax.TransferSyntax.TheVariants.{Explicit}
 use Rattle.ups_dataset.specs.Written.{written}
 use Rattle.ups_cycle.specs.declared.state.StepState.{StepState}
 use Rattle.ups_life.specs.declared.request.Request.{Request}
-use Rattle.ups_life.specs.declared.request.Request.TheVariants.{Create, Change, AskCancel, Set, Subscribe, Unsubscribe, Suspend, Ack, Sweep}
+use Rattle.ups_life.specs.declared.request.Request.TheVariants.{Create, Change, AskCancel, Set, Subscribe, Unsubscribe, Suspend, Ack, Sweep, Reserve}
 use Rattle.ups_life.specs.declared.request.Transaction.{Transaction}
 use Rattle.ups_life.specs.declared.request.Transaction.TheVariants.{Absent, Malformed, Proper}
 use Rattle.ups_life.specs.declared.watching.Target.{Target}
@@ -30,6 +30,7 @@ operation_of (Unsubscribe place receiver) = operations.Unsubscribe
 operation_of (Suspend receiver) = operations.Suspend
 operation_of (Ack upto) = operations.Acknowledge
 operation_of Sweep = operations.Sweep
+operation_of (Reserve step) = operations.Reserve
 
 -- the instance: that of a step, or the one that stands for the global subscription without keys or with keys
 -- (PS3.4 CC.2.3); the one without keys if all subscriptions of a watcher end, or only its global one
@@ -50,6 +51,7 @@ instance_of (Set step transaction attributes) = step
 instance_of (Subscribe target receiver lock) = target_instance target
 instance_of (Unsubscribe place receiver) = place_instance place
 instance_of (Suspend receiver) = Some (text_of GlobalSubscription)
+instance_of (Reserve step) = Some step
 instance_of request = None
 
 -- the Transaction UID; an empty text if it was sent and is malformed

@@ -8,7 +8,7 @@ use Rattle.ups_dataset.specs.Written.{written}
 use Rattle.ups_dataset.specs.Spelling.{SpellsSet}
 use Rattle.ups_match.specs.Matching.{KeySet, fault_of}
 use Rattle.ups_life.specs.declared.request.Request.{Request}
-use Rattle.ups_life.specs.declared.request.Request.TheVariants.{Create, Change, AskCancel, Set, Subscribe, Unsubscribe, Suspend, Ack, Sweep}
+use Rattle.ups_life.specs.declared.request.Request.TheVariants.{Create, Change, AskCancel, Set, Subscribe, Unsubscribe, Suspend, Ack, Sweep, Reserve}
 use Rattle.ups_life.specs.declared.request.Transaction.{Transaction}
 use Rattle.ups_life.specs.declared.request.Transaction.TheVariants.{Proper}
 use Rattle.ups_life.specs.declared.watching.Target.{Target}
@@ -60,6 +60,7 @@ IsRecordable (Unsubscribe place receiver) = IsPlace place × IsTitle receiver
 IsRecordable (Suspend receiver) = IsTitle receiver
 IsRecordable (Ack upto) = Unit {0}
 IsRecordable Sweep = Unit {0}
+IsRecordable (Reserve step) = IsStepUid step
 
 pub record IsWritableEntry {A : Type 0} (e : Entry A) : Type 0 where
   pub title : IsTitle e.ae

@@ -27,6 +27,8 @@ pub enum RecordedOperation {
     Acknowledge,
     /// The removal of final steps.
     Sweep,
+    /// The reservation of the instance UID of a step.
+    Reserve,
 }
 
 impl RecordedOperation {
@@ -44,6 +46,7 @@ impl RecordedOperation {
             RecordedOperation::Suspend => 7,
             RecordedOperation::Acknowledge => 8,
             RecordedOperation::Sweep => 9,
+            RecordedOperation::Reserve => 10,
         }
     }
 
@@ -62,6 +65,7 @@ impl RecordedOperation {
             7 => Some(RecordedOperation::Suspend),
             8 => Some(RecordedOperation::Acknowledge),
             9 => Some(RecordedOperation::Sweep),
+            10 => Some(RecordedOperation::Reserve),
             _ => None,
         }
     }
@@ -80,6 +84,7 @@ impl RecordedOperation {
             RecordedOperation::Suspend => b"suspend",
             RecordedOperation::Acknowledge => b"acknowledge",
             RecordedOperation::Sweep => b"sweep",
+            RecordedOperation::Reserve => b"reserve",
         }
     }
 
@@ -106,6 +111,8 @@ impl RecordedOperation {
             Some(RecordedOperation::Acknowledge)
         } else if name == b"sweep".as_slice() {
             Some(RecordedOperation::Sweep)
+        } else if name == b"reserve".as_slice() {
+            Some(RecordedOperation::Reserve)
         } else {
             None
         }

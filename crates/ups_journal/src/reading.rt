@@ -4,7 +4,7 @@ ghost use Rattle.std.specs.Prelude.{◌≡◌, ◌≢◌, ℕ, Bool, List, Optio
 ghost use Rattle.ups_dataset.specs.Data.{El};
 ghost use Rattle.ups_cycle.specs.declared.state.StepState.{StepState};
 ghost use Rattle.ups_life.specs.declared.request.Request.{Request};
-ghost use Rattle.ups_life.specs.declared.request.Request.TheVariants.{Create, Change, AskCancel, Set, Subscribe, Unsubscribe, Suspend, Ack, Sweep};
+ghost use Rattle.ups_life.specs.declared.request.Request.TheVariants.{Create, Change, AskCancel, Set, Subscribe, Unsubscribe, Suspend, Ack, Sweep, Reserve};
 ghost use Rattle.ups_life.specs.declared.request.Transaction.{Transaction};
 ghost use Rattle.ups_life.specs.declared.watching.Target.{Target};
 ghost use Rattle.ups_life.specs.declared.watching.Place.{Place};
@@ -293,6 +293,34 @@ fn sweep_in<A: Allocator + Copy>(columns: &Columns<A>) -> Result<Request<A>, Rec
     Ok(Request::Sweep)
 }
 
+/// Reads the reservation of an instance UID.
+///
+/// Errors: BadColumns, BadInstance.
+fn reserve_in<A: Allocator + Copy>(columns: &Columns<A>) -> Result<Request<A>, RecordFault>
+    requires { columns.now.operation ≡ operations.Reserve }
+    ensures read { IfOk result (λ q. (columns_of q ≡ columns.now) × IsRecordable q) }
+    ensures only { (step : List ℕ) → IsRecordable {A = A} (Reserve step) → columns_of {A = A} (Reserve step) ≡ columns.now → MatchResult result (λ q. q ≡ Reserve step) (λ f. f ≡ Memory) }
+{
+    let Columns {
+        operation: _,
+        instance: Some(instance),
+        transaction_uid: None,
+        state: None,
+        receiver: None,
+        deletion_lock: None,
+        event: None,
+        utc_offset: None,
+        attributes: None,
+    } = columns
+    else {
+        return Err(RecordFault::BadColumns);
+    };
+    match one_step_in(instance.as_slice()) {
+        Some(step) => Ok(Request::Reserve { step }),
+        None => Err(RecordFault::BadInstance),
+    }
+}
+
 /// Reads the request.
 ///
 /// Errors: those of its operation.
@@ -313,6 +341,7 @@ fn request_in<A: Allocator + Copy>(
         RecordedOperation::Suspend => suspend_in(columns),
         RecordedOperation::Acknowledge => acknowledge_in(columns),
         RecordedOperation::Sweep => sweep_in(columns),
+        RecordedOperation::Reserve => reserve_in(columns),
     }
 }
 

@@ -2,7 +2,7 @@
 
 ghost use Rattle.std.specs.Prelude.{◌≡◌, ◌≢◌, None, Some, IfOk, IfErr};
 ghost use Rattle.ups_pdu.specs.Registered.{text_of};
-ghost use Rattle.ups_life.specs.declared.request.Request.TheVariants.{Create, Change, AskCancel, Set, Subscribe, Unsubscribe, Suspend};
+ghost use Rattle.ups_life.specs.declared.request.Request.TheVariants.{Create, Change, AskCancel, Set, Subscribe, Unsubscribe, Suspend, Reserve};
 ghost use Rattle.ups_journal.specs.Columns.{target_instance, target_offset, target_set, place_instance, transaction_text, columns_of, recorded};
 ghost use Rattle.ups_journal.specs.Writable.{IsTitle, IsStep, IsTransaction, IsWritableTarget, IsPlace, IsRecordable, IsWritableEntry};
 ghost use Rattle.ups_journal.specs.declared.operation.RecordedOperation.TheVariants as operations;
@@ -214,6 +214,15 @@ fn suspend_columns<A: Allocator + Copy>(
     Ok(columns)
 }
 
+/// Records the reservation of an instance UID.
+fn reserve_columns<A: Allocator + Copy>(alloc: A, step: &StepUid) -> Result<Columns<A>, AllocError>
+    ensures { IfOk result (λ c. (c ≡ columns_of {A = A} (Reserve step.now)) × IsRecordable {A = A} (Reserve step.now)) }
+{
+    let mut columns = Columns::of(RecordedOperation::Reserve);
+    columns.instance = Some(Bytes::copy_of(alloc, step.as_bytes())?);
+    Ok(columns)
+}
+
 /// Records a request.
 fn request_columns<A: Allocator + Copy>(
     alloc: A,
@@ -248,6 +257,7 @@ fn request_columns<A: Allocator + Copy>(
             Ok(columns)
         }
         Request::Sweep => Ok(Columns::of(RecordedOperation::Sweep)),
+        Request::Reserve { step } => Ok(reserve_columns(alloc, step)?),
     }
 }
 

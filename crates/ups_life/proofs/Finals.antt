@@ -14,19 +14,20 @@ use Rattle.ups_life.specs.Settings.{Settings}
 use Rattle.ups_cycle.specs.States.{is_final}
 use Rattle.ups_cycle.specs.Cycle.{claim_status, complete_status, discontinue_status, wrong_status}
 use Rattle.ups_life.specs.Verdict.{is_right, is_proper, is_performed, is_discontinued, change_status}
-use Rattle.ups_life.specs.Steps.{is_on, creates, used, canceled, state_then, state, final_at, row_of}
+use Rattle.ups_life.specs.Steps.{is_on, uses_uid, used, canceled, state_then, state, final_at, row_of}
 use Rattle.ups_life.specs.Watching.{is_held}
 use Rattle.ups_life.specs.History.{legal}
 use Rattle.ups_life.proofs.Texts.{same_text}
 use Rattle.ups_life.proofs.Accepted.{said, succeeded, legal_tail, created_fresh, was_held, neither}
+use Rattle.ups_life.proofs.HeldOnce.{creates_none}
 use Rattle.ups_life.proofs.OneHolder.{not_on}
 
 -- what was never created is SCHEDULED
 new_is_scheduled : {A : Type 0} (s : Settings) (es : List (Entry A)) (u : List ℕ) → legal s es ≡ true → used es u ≡ false → state es u ≡ Scheduled
 new_is_scheduled s [] u h unused = refl
 new_is_scheduled s (e ∷ es) u h unused =
-    let none = neither (creates u e.request) (used es u) unused in
-    ap (λ on. cond on (state_then (state es u) e.request) (state es u)) (not_on s es u e.request (succeeded s e es h) none.1 none.0)
+    let none = neither (uses_uid u e.request) (used es u) unused in
+    ap (λ on. cond on (state_then (state es u) e.request) (state es u)) (not_on s es u e.request (succeeded s e es h) none.1 (creates_none u e.request none.0))
     ∙ new_is_scheduled s es u (legal_tail s e es h) none.1
 
 scheduled_is_open : (now : StepState) → now ≡ Scheduled → is_final now ≡ true → ⊥

@@ -3,12 +3,12 @@ use Rattle.std.proofs.Common.{◌≡◌, ℕ, Bool, true, false, not, ◌||◌, 
 use Rattle.std.specs.Str.{bytes_eq}
 use Rattle.std.specs.List.{list_any, AllByRecursion}
 use Rattle.ups_life.specs.declared.request.Request.{Request}
-use Rattle.ups_life.specs.declared.request.Request.TheVariants.{Create, Sweep}
+use Rattle.ups_life.specs.declared.request.Request.TheVariants.{Create, Sweep, Reserve}
 use Rattle.ups_life.specs.declared.entry.Entry.{Entry}
 use Rattle.ups_cycle.specs.declared.status.Status.TheVariants.{Success}
 use Rattle.ups_life.specs.Settings.{Settings}
 use Rattle.ups_life.specs.Distinct.{Distinct}
-use Rattle.ups_life.specs.Steps.{used, creates}
+use Rattle.ups_life.specs.Steps.{used, creates, uses_uid}
 use Rattle.ups_life.specs.Watching.{is_due, held, held_after, is_held}
 use Rattle.ups_life.specs.History.{legal}
 use Rattle.ups_life.proofs.Texts.{same_text, text_is_itself}
@@ -18,9 +18,9 @@ or_true : (b : Bool) → b || true ≡ true
 or_true true = refl
 or_true false = refl
 
-more_used : {A : Type 0} (es : List (Entry A)) (r : Request A) (us : List (List ℕ)) → AllByRecursion (λ u. used es u ≡ true) us → AllByRecursion (λ u. (creates u r || used es u) ≡ true) us
+more_used : {A : Type 0} (es : List (Entry A)) (r : Request A) (us : List (List ℕ)) → AllByRecursion (λ u. used es u ≡ true) us → AllByRecursion (λ u. (uses_uid u r || used es u) ≡ true) us
 more_used es r [] h = tt
-more_used es r (u ∷ us) (h, more) = (ap (λ b. creates u r || b) h ∙ or_true (creates u r), more_used es r us more)
+more_used es r (u ∷ us) (h, more) = (ap (λ b. uses_uid u r || b) h ∙ or_true (uses_uid u r), more_used es r us more)
 
 each_push : {X : Type 0} (P : X → Type 0) (us : List X) (u : X) → AllByRecursion P us → P u → AllByRecursion P (us ++ u ∷ [])
 each_push P [] u h p = (p, tt)
@@ -34,12 +34,18 @@ each_filter P p (u ∷ us) (q, more) = at (p u) (each_filter P p us more)
     at true m = (q, m)
     at false m = m
 
-used_after : {A : Type 0} (s : Settings) (es : List (Entry A)) (moment : ℕ) (us : List (List ℕ)) (r : Request A) → AllByRecursion (λ u. used es u ≡ true) us → AllByRecursion (λ u. (creates u r || used es u) ≡ true) (held_after s es moment us r)
+used_after : {A : Type 0} (s : Settings) (es : List (Entry A)) (moment : ℕ) (us : List (List ℕ)) (r : Request A) → AllByRecursion (λ u. used es u ≡ true) us → AllByRecursion (λ u. (uses_uid u r || used es u) ≡ true) (held_after s es moment us r)
 used_after {A} s es moment us (Create step attributes) h =
     let r : Request A = Create step attributes in
     each_push (λ u. (bytes_eq step u || used es u) ≡ true) us step (more_used es r us h) (ap (λ b. b || used es step) (text_is_itself step))
 used_after s es moment us Sweep h = each_filter (λ u. used es u ≡ true) (λ u. not (is_due s es moment u)) us h
+used_after s es moment us (Reserve step) h = more_used es (Reserve step) us h
 used_after s es moment us r h = h
+
+-- a request that does not use a UID creates no step with it
+pub creates_none : {A : Type 0} (u : List ℕ) (r : Request A) → uses_uid u r ≡ false → creates u r ≡ false
+creates_none u (Create step attributes) h = h
+creates_none u r h = refl
 
 -- each step that is held was created
 pub held_used : {A : Type 0} (s : Settings) (es : List (Entry A)) → AllByRecursion (λ u. used es u ≡ true) (held s es)

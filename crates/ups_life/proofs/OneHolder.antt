@@ -18,13 +18,13 @@ use Rattle.ups_cycle.specs.States.{is_final}
 use Rattle.ups_life.specs.Values.{unless_fault}
 use Rattle.ups_life.specs.Verdict.{is_right, is_given, is_proper, set_attributes_status, change_status, update_status, is_performed, is_discontinued}
 use Rattle.ups_cycle.specs.Cycle.{claim_status, complete_status, discontinue_status, wrong_status, set_status}
-use Rattle.ups_life.specs.Steps.{Claim, is_on, creates, used, canceled, state, state_then, taken, claimed, claim, right, row_of}
+use Rattle.ups_life.specs.Steps.{Claim, is_on, creates, uses_uid, used, canceled, state, state_then, taken, claimed, claim, right, row_of}
 use Rattle.ups_life.specs.Watching.{is_held}
 use Rattle.ups_life.specs.History.{legal}
 use Rattle.ups_life.specs.Claims.{listed, claims}
 use Rattle.ups_life.proofs.Texts.{same_text}
 use Rattle.ups_life.proofs.Accepted.{said, succeeded, succeeded_of, legal_tail, created_fresh, was_held, on_held, neither, differ}
-use Rattle.ups_life.proofs.HeldOnce.{is_held_used}
+use Rattle.ups_life.proofs.HeldOnce.{is_held_used, creates_none}
 
 -- an entry on a step that was never created creates it
 pub not_on : {A : Type 0} (s : Settings) (es : List (Entry A)) (u : List ℕ) (r : Request A) → said s es r ≡ Success → used es u ≡ false → creates u r ≡ false → is_on u r ≡ false
@@ -38,8 +38,8 @@ not_on s es u r d unused new = is_false (is_on u r) (λ on. differ (used es u) u
 pub unclaimed : {A : Type 0} (s : Settings) (es : List (Entry A)) (u : List ℕ) → legal s es ≡ true → used es u ≡ false → claims es u ≡ []
 unclaimed s [] u h unused = refl
 unclaimed s (e ∷ es) u h unused =
-    let none = neither (creates u e.request) (used es u) unused in
-    ap (λ on. cond on (listed (claimed e)) [] ++ claims es u) (not_on s es u e.request (succeeded s e es h) none.1 none.0)
+    let none = neither (uses_uid u e.request) (used es u) unused in
+    ap (λ on. cond on (listed (claimed e)) [] ++ claims es u) (not_on s es u e.request (succeeded s e es h) none.1 (creates_none u e.request none.0))
     ∙ unclaimed s es u (legal_tail s e es h) none.1
 
 -- a cancel request leaves no step SCHEDULED

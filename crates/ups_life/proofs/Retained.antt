@@ -10,7 +10,7 @@ use Rattle.ups_life.specs.declared.request.Request.TheVariants.{Create, Sweep}
 use Rattle.ups_cycle.specs.declared.status.Status.TheVariants.{Success}
 use Rattle.ups_life.specs.Settings.{Settings}
 use Rattle.ups_cycle.specs.States.{is_final}
-use Rattle.ups_life.specs.Steps.{used, creates, state, final_at}
+use Rattle.ups_life.specs.Steps.{used, uses_uid, state, final_at}
 use Rattle.ups_life.specs.Watching.{is_among, is_kept, has_passed, is_due, held_after, held, is_held}
 use Rattle.ups_life.specs.History.{legal}
 use Rattle.ups_life.proofs.Texts.{same_text}
@@ -86,7 +86,7 @@ not_again s es moment u r d known away = away
 -- a UID stays used
 stays_used : {A : Type 0} (later es : List (Entry A)) (u : List ℕ) → used es u ≡ true → used (later ++ es) u ≡ true
 stays_used [] es u h = h
-stays_used (e ∷ later) es u h = or_second (creates u e.request) (used (later ++ es) u) (stays_used later es u h)
+stays_used (e ∷ later) es u h = or_second (uses_uid u e.request) (used (later ++ es) u) (stays_used later es u h)
 
 -- a step that was created and is not held is never held again, and its UID stays used
 pub stays_away : {A : Type 0} (s : Settings) (later es : List (Entry A)) (u : List ℕ) → legal s (later ++ es) ≡ true → used es u ≡ true → is_held s es u ≡ false → (is_held s (later ++ es) u ≡ false) × (used (later ++ es) u ≡ true)

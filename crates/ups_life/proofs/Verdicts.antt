@@ -6,7 +6,7 @@ use Rattle.ups_dataset.specs.Data.{Data, bytes, items, El, element_at}
 use Rattle.ups_life.specs.declared.checks.Checked.{Checked}
 use Rattle.ups_life.specs.declared.checks.ValueRule.{ValueRule}
 use Rattle.ups_life.specs.declared.request.Request.{Request}
-use Rattle.ups_life.specs.declared.request.Request.TheVariants.{Create, Change, AskCancel, Set, Subscribe, Unsubscribe, Suspend, Ack, Sweep}
+use Rattle.ups_life.specs.declared.request.Request.TheVariants.{Create, Change, AskCancel, Set, Subscribe, Unsubscribe, Suspend, Ack, Sweep, Reserve}
 use Rattle.ups_life.specs.declared.request.Transaction.{Transaction}
 use Rattle.ups_life.specs.declared.row.Row.{Row}
 use Rattle.ups_cycle.specs.declared.state.StepState.{StepState}
@@ -144,3 +144,4 @@ verdict_grants_all row used (Unsubscribe place receiver) = place_grants row plac
 verdict_grants_all row used (Suspend receiver) = refl
 verdict_grants_all row used (Ack upto) = refl
 verdict_grants_all row used Sweep = refl
+verdict_grants_all row used (Reserve step) = refl

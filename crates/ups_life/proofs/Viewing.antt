@@ -15,7 +15,7 @@ use Rattle.ups_life.specs.declared.event.Report.{Report}
 use Rattle.ups_life.specs.declared.readiness.InputReadiness.{InputReadiness}
 use Rattle.ups_life.specs.declared.readiness.InputReadiness.TheVariants.{Incomplete, Unavailable, Ready}
 use Rattle.ups_life.specs.declared.request.Request.{Request}
-use Rattle.ups_life.specs.declared.request.Request.TheVariants.{Create, Change, AskCancel, Set, Subscribe, Unsubscribe, Suspend, Ack, Sweep}
+use Rattle.ups_life.specs.declared.request.Request.TheVariants.{Create, Change, AskCancel, Set, Subscribe, Unsubscribe, Suspend, Ack, Sweep, Reserve}
 use Rattle.ups_life.specs.declared.request.Transaction.{Transaction}
 use Rattle.ups_cycle.specs.declared.state.StepState.{StepState}
 use Rattle.ups_cycle.specs.declared.state.StepState.TheVariants.{Scheduled, InProgress, Completed, Canceled}
@@ -358,6 +358,7 @@ step s es w u k ae now (Unsubscribe place v) before is_in some = λ n. before is
     ended false p h = h
 step s es w u k ae now (Suspend v) before is_in some = λ n. before is_in some
 step s es w u k ae now (Ack upto) before is_in some = λ n. before is_in some
+step s es w u k ae now (Reserve v) before is_in some = λ n. before is_in some
 step {A} s es w u k ae now Sweep before is_in some = λ n. before (held_before {A = A} s es now (held s es) u Sweep refl is_in) some
 
 -- ALL ENTRIES

@@ -9,7 +9,7 @@ use Rattle.ups_dataset.specs.declared.vr.Vr.TheVariants.{Cs, Dt, Lo, Lt, Sq, Ui}
 use Rattle.ups_dataset.specs.declared.dictionary.TheConstants.{SOP_CLASS_UID, SOP_INSTANCE_UID, TRANSACTION_UID, SCHEDULED_PROCEDURE_STEP_START_DATE_TIME, INPUT_READINESS_STATE, PROCEDURE_STEP_STATE, SCHEDULED_PROCEDURE_STEP_PRIORITY, PROCEDURE_STEP_LABEL, UNIFIED_PROCEDURE_STEP_PERFORMED_PROCEDURE_SEQUENCE, PERFORMED_PROCEDURE_STEP_START_DATE_TIME, PERFORMED_PROCEDURE_STEP_END_DATE_TIME, PROCEDURE_STEP_PROGRESS_INFORMATION_SEQUENCE, PROCEDURE_STEP_CANCELLATION_DATE_TIME, REASON_FOR_CANCELLATION}
 use Rattle.ups_dataset.specs.Data.{El, bytes, items, items_of, no_items}
 use Rattle.ups_life.specs.declared.request.Request.{Request}
-use Rattle.ups_life.specs.declared.request.Request.TheVariants.{Create, Change, AskCancel, Set}
+use Rattle.ups_life.specs.declared.request.Request.TheVariants.{Create, Change, AskCancel, Set, Reserve}
 use Rattle.ups_life.specs.declared.request.Transaction.TheVariants.{Absent, Malformed, Proper}
 use Rattle.ups_life.specs.declared.request.Ask.TheVariants.{Do}
 use Rattle.ups_life.specs.declared.request.Reply.{Reply}
@@ -92,6 +92,11 @@ one_step = after_all site [] (create step_one a_step ∷ [])
 second_create_is_refused : replies site [] (create step_one a_step ∷ create step_one a_step ∷ []) ≡ answered (Success ∷ DuplicateSopInstance ∷ [])
 unfolding moment day_number days_of_month field is_date is_time date_number second_of_day microsecond_of offset_of signed_offset
 second_create_is_refused = refl
+
+-- nor is one under a reserved UID, of which nothing else is known
+reserved_uid_is_used : replies site [] (Reserve step_one ∷ create step_one a_step ∷ create step_two a_step ∷ []) ≡ answered (Success ∷ DuplicateSopInstance ∷ Success ∷ [])
+unfolding moment day_number days_of_month field is_date is_time date_number second_of_day microsecond_of offset_of signed_offset
+reserved_uid_is_used = refl
 
 -- it is created as SCHEDULED, with each checked attribute, which has a value, which is a good one
 bad_creates_are_refused : replies site one_step (

@@ -12,7 +12,7 @@ use Rattle.ups_dataset.specs.Data.{El, bytes, items, items_of, put, laid_over, i
 use Rattle.ups_dataset.specs.Tag.{is_tag}
 use Rattle.ups_match.specs.Moments.{stamp}
 use Rattle.ups_life.specs.declared.request.Request.{Request}
-use Rattle.ups_life.specs.declared.request.Request.TheVariants.{Create, Change, AskCancel, Set, Subscribe, Unsubscribe}
+use Rattle.ups_life.specs.declared.request.Request.TheVariants.{Create, Change, AskCancel, Set, Subscribe, Unsubscribe, Reserve}
 use Rattle.ups_life.specs.declared.watching.Target.{Target}
 use Rattle.ups_life.specs.declared.watching.Target.TheVariants.{Single}
 use Rattle.ups_life.specs.declared.watching.Place.{Place}
@@ -66,10 +66,16 @@ abbrev pub creates : {A : Type 0} → List ℕ → Request A → Bool
 creates u (Create step attributes) = bytes_eq step u
 creates u request = false
 
--- a step with this UID was created: the UID stays used from then on (PS3.4 CC.2.5)
+-- the request uses this UID: it creates a step with it, or reserves it
+abbrev pub uses_uid : {A : Type 0} → List ℕ → Request A → Bool
+uses_uid u (Create step attributes) = bytes_eq step u
+uses_uid u (Reserve step) = bytes_eq step u
+uses_uid u request = false
+
+-- a step with this UID was created, or the UID reserved: it stays used from then on (PS3.4 CC.2.5)
 abbrev pub used : {A : Type 0} → List (Entry A) → List ℕ → Bool
 used [] u = false
-used (e ∷ es) u = creates u e.request || used es u
+used (e ∷ es) u = uses_uid u e.request || used es u
 
 -- a request to cancel makes a step that nobody has claimed CANCELED at once; otherwise the performer is asked
 -- (PS3.4 CC.2.2)

@@ -86,6 +86,12 @@ pub enum Request<A: Allocator + Copy> {
     },
     /// Removes each step that has been final for as long as steps are kept, and that no watcher has locked.
     Sweep,
+    /// Reserves the instance UID of a step, so that no step is created under it (PS3.4 CC.2.5). No message asks for it:
+    /// a compaction enters it in the place of the creation of a step of which nothing else is kept.
+    Reserve {
+        /// The instance UID.
+        step: StepUid,
+    },
 }
 
 impl<A: Allocator + Copy> Request<A> {
@@ -108,7 +114,8 @@ impl<A: Allocator + Copy> Request<A> {
             | Request::Unsubscribe { .. }
             | Request::Suspend { .. }
             | Request::Ack { .. }
-            | Request::Sweep => None,
+            | Request::Sweep
+            | Request::Reserve { .. } => None,
         }
     }
 

@@ -116,7 +116,7 @@ fn deed_of(request: &Request<Global>) -> Option<Deed> {
         Request::Subscribe { receiver, lock, .. } => Some(Deed::Subscribe(*receiver, *lock)),
         Request::Unsubscribe { receiver, .. } => Some(Deed::Unsubscribe(*receiver)),
         Request::Suspend { receiver } => Some(Deed::Suspend(*receiver)),
-        Request::Ack { .. } | Request::Sweep => None,
+        Request::Ack { .. } | Request::Sweep | Request::Reserve { .. } => None,
     }
 }
 

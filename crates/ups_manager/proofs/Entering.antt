@@ -10,7 +10,7 @@ use Rattle.ups_cycle.specs.declared.status.Status.TheVariants.{Success, Resource
 use Rattle.ups_cycle.specs.Statuses.{is_done}
 use Rattle.ups_life.specs.declared.entry.Entry.{Entry}
 use Rattle.ups_life.specs.declared.request.Request.{Request}
-use Rattle.ups_life.specs.declared.request.Request.TheVariants.{Create, Change, AskCancel, Set, Subscribe, Unsubscribe, Suspend, Ack, Sweep}
+use Rattle.ups_life.specs.declared.request.Request.TheVariants.{Create, Change, AskCancel, Set, Subscribe, Unsubscribe, Suspend, Ack, Sweep, Reserve}
 use Rattle.ups_life.specs.declared.request.Ask.TheVariants.{Do}
 use Rattle.ups_life.specs.declared.request.Reply.{Reply}
 use Rattle.ups_life.specs.declared.request.Reply.TheVariants.{Status as Answered, Swept}
@@ -96,6 +96,7 @@ repeats_is was_used es (Unsubscribe place receiver) h = refl
 repeats_is was_used es (Suspend receiver) h = refl
 repeats_is was_used es (Ack upto) h = refl
 repeats_is was_used es Sweep h = refl
+repeats_is was_used es (Reserve step) h = refl
 
 step_decided : {A : Type 0} (s : Settings) (es : List (Entry A)) (caller : ℕ) (ae : List ℕ) (moment : ℕ) (r : Request A) → kind_of r ≡ OfStep
     → decided s es (entry caller ae moment r) r ≡ Answered (sized r (row_then s es (entry caller ae moment r)).attributes (verdict (known s es (step_of r)) (repeats es r) r))

@@ -12,6 +12,7 @@ mod Offsets
 mod Outsiders
 mod Reindexed
 mod Remembering
+mod Reserving
 mod Small
 mod Watchers
 mod Watches

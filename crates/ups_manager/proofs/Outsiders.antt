@@ -8,7 +8,7 @@ use Rattle.ups_dataset.specs.Data.{El}
 use Rattle.ups_life.specs.declared.entry.Entry.{Entry}
 use Rattle.ups_life.specs.declared.peer.Peer.{Peer}
 use Rattle.ups_life.specs.declared.request.Request.{Request}
-use Rattle.ups_life.specs.declared.request.Request.TheVariants.{Create, Change, AskCancel, Set, Subscribe, Unsubscribe, Suspend, Ack, Sweep}
+use Rattle.ups_life.specs.declared.request.Request.TheVariants.{Create, Change, AskCancel, Set, Subscribe, Unsubscribe, Suspend, Ack, Sweep, Reserve}
 use Rattle.ups_life.specs.declared.watching.Subscription.{Subscription}
 use Rattle.ups_life.specs.Settings.{Settings}
 use Rattle.ups_life.specs.Steps.{past, is_step, row}
@@ -54,6 +54,7 @@ cover_stays s es w set caller ae moment (Suspend receiver) out h =
     beside s.peers receiver w None (cover s.peers es w set) out (for_peer s.peers receiver _ (legal_head s (entry caller ae moment (Suspend receiver)) es h))
 cover_stays s es w set caller ae moment (Ack upto) out h = refl
 cover_stays s es w set caller ae moment Sweep out h = refl
+cover_stays s es w set caller ae moment (Reserve step) out h = refl
 
 no_cover : {A : Type 0} (s : Settings) (es : List (Entry A)) (w : List ℕ) (set : List El) → is_peer s.peers w ≡ false → legal s es ≡ true → cover s.peers es w set ≡ None
 no_cover s [] w set out h = refl
@@ -83,6 +84,7 @@ watch_stays s es w u caller ae moment (Unsubscribe place receiver) out h before 
 watch_stays s es w u caller ae moment (Suspend receiver) out h before = before
 watch_stays s es w u caller ae moment (Ack upto) out h before = before
 watch_stays s es w u caller ae moment Sweep out h before = before
+watch_stays s es w u caller ae moment (Reserve step) out h before = before
 
 no_watch : {A : Type 0} (s : Settings) (es : List (Entry A)) (w u : List ℕ) → is_peer s.peers w ≡ false → legal s es ≡ true → watch s es w u ≡ None
 no_watch s [] w u out h = refl
@@ -124,6 +126,7 @@ no_reports s es w caller ae moment (Unsubscribe place receiver) out h before = r
 no_reports s es w caller ae moment (Suspend receiver) out h before = refl
 no_reports s es w caller ae moment (Ack upto) out h before = refl
 no_reports s es w caller ae moment Sweep out h before = refl
+no_reports s es w caller ae moment (Reserve step) out h before = refl
 
 no_events : {A : Type 0} (s : Settings) (es : List (Entry A)) (w : List ℕ) → is_peer s.peers w ≡ false → legal s es ≡ true → events s es w ≡ []
 no_events s [] w out h = refl

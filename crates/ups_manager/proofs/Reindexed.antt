@@ -10,7 +10,7 @@ use Rattle.ups_keep.specs.declared.due.Final.{Final}
 use Rattle.ups_keep.specs.Waits.{steps_of}
 use Rattle.ups_keep.proofs.Waiting.{other_text}
 use Rattle.ups_life.specs.declared.entry.Entry.{Entry}
-use Rattle.ups_life.specs.declared.request.Request.TheVariants.{Create, Set, Subscribe, Suspend, Ack, Sweep}
+use Rattle.ups_life.specs.declared.request.Request.TheVariants.{Create, Set, Subscribe, Suspend, Ack, Sweep, Reserve}
 use Rattle.ups_life.specs.Settings.{Settings}
 use Rattle.ups_life.specs.Distinct.{Distinct}
 use Rattle.ups_life.specs.Steps.{past, step_of}
@@ -24,7 +24,7 @@ use Rattle.ups_tables.specs.HeldSteps.{held_steps, put_step}
 use Rattle.ups_tables.specs.Live.{is_of_no_step}
 use Rattle.ups_tables.proofs.Holding.{steps_same, steps_sweep}
 use Rattle.ups_tables.specs.declared.plan.Plan.{Plan}
-use Rattle.ups_tables.specs.declared.plan.Plan.TheVariants.{Create as ToCreate, Change as ToChange, Set as ToSet, Single as ToSingle, Global as ToGlobal, End as ToEnd, EndAll as ToEndAll, Suspend as ToSuspend, Ack as ToAck, Sweep as ToSweep, Idle as ToIdle}
+use Rattle.ups_tables.specs.declared.plan.Plan.TheVariants.{Create as ToCreate, Change as ToChange, Set as ToSet, Single as ToSingle, Global as ToGlobal, End as ToEnd, EndAll as ToEndAll, Suspend as ToSuspend, Ack as ToAck, Sweep as ToSweep, Reserve as ToReserve, Idle as ToIdle}
 use Rattle.ups_tables.specs.declared.tables.Tables.{Tables}
 use Rattle.ups_tables.specs.Planned.{IsPlan, removed_by}
 use Rattle.ups_tables.specs.Stands.{Stands}
@@ -103,6 +103,7 @@ module _ {A : Type 0} (s : Settings) (history : List (Entry A)) (t : Tables A) (
   removed_is (ToEndAll peer freed) p u = let bad = sym p.request ∙ request in absurd cc
   removed_is (ToSuspend peer) p u = let bad : Suspend p.receiver ≡ Sweep = sym p.request ∙ request in absurd cc
   removed_is (ToAck peer upto) p u = let bad : Ack upto ≡ Sweep = sym p.request ∙ request in absurd cc
+  removed_is (ToReserve step) p u = let bad : Reserve step ≡ Sweep = sym p.request ∙ request in absurd cc
 
   -- so it leaves in the index the steps that are held after it
   pub sweep_indexed : (p : Plan A) → IsPlan s (past history) e t p → without_steps (steps_of (removed_by p)) (indexed_steps s (past history)) ≡ indexed_steps s (e ∷ past history)

@@ -4,7 +4,7 @@ use Rattle.std.specs.List.{AllByRecursion}
 use Rattle.ups_life.specs.declared.entry.Entry.{Entry}
 use Rattle.ups_life.specs.declared.request.Ask.TheVariants.{Do}
 use Rattle.ups_life.specs.declared.request.Request.{Request}
-use Rattle.ups_life.specs.declared.request.Request.TheVariants.{Create, Subscribe, Unsubscribe, Suspend, Ack, Sweep}
+use Rattle.ups_life.specs.declared.request.Request.TheVariants.{Create, Subscribe, Unsubscribe, Suspend, Ack, Sweep, Reserve}
 use Rattle.ups_life.specs.declared.request.Reply.{Reply}
 use Rattle.ups_life.specs.Settings.{Settings}
 use Rattle.ups_life.specs.Steps.{past}
@@ -16,7 +16,7 @@ use Rattle.ups_tables.specs.Planned.{IsPlan, removed_by}
 use Rattle.ups_service.specs.Law.{Answers, SmallReply}
 use Rattle.ups_manager.specs.declared.deciding.Decision.{Decision}
 use Rattle.ups_manager.specs.declared.deciding.Kind.{Kind}
-use Rattle.ups_manager.specs.declared.deciding.Kind.TheVariants.{OfStep, OfWatcher, OfEvents, OfTime}
+use Rattle.ups_manager.specs.declared.deciding.Kind.TheVariants.{OfStep, OfWatcher, OfEvents, OfTime, OfUid}
 use Rattle.ups_manager.specs.Held.{IsSmallStep}
 use Rattle.ups_manager.specs.Indexing.{after_change, indexed_steps}
 
@@ -27,6 +27,7 @@ kind_of (Unsubscribe place receiver) = OfWatcher
 kind_of (Suspend receiver) = OfWatcher
 kind_of (Ack upto) = OfEvents upto
 kind_of Sweep = OfTime
+kind_of (Reserve step) = OfUid step
 kind_of request = OfStep
 
 -- the request creates a step whose UID passes a test: that it was used

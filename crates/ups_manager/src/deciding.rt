@@ -11,7 +11,7 @@ ghost use Rattle.ups_keep.specs.Waits.{steps_of};
 ghost use Rattle.ups_life.specs.History.{legal, receiver_of, of_peer, of_lock, status, accepts, acknowledged};
 ghost use Rattle.ups_tables.specs.Planned.{IsPlan, removed_by, room_for};
 ghost use Rattle.ups_tables.specs.Stands.{Stands as TablesStand};
-ghost use Rattle.ups_manager.specs.declared.deciding.Kind.TheVariants.{OfStep, OfWatcher, OfEvents, OfTime};
+ghost use Rattle.ups_manager.specs.declared.deciding.Kind.TheVariants.{OfStep, OfWatcher, OfEvents, OfTime, OfUid};
 ghost use Rattle.ups_manager.specs.Deciding.{kind_of, IsDecided, IsRefused};
 ghost use Rattle.ups_manager.specs.Indexing.{after_change, has_room};
 ghost use Rattle.ups_manager.specs.Kept.{ManagerStands};
@@ -24,7 +24,7 @@ use std::alloc::{AllocError, Allocator};
 use ups_cycle::Status;
 use ups_history::History;
 use ups_index::{Index, Values};
-use ups_life::{Configuration, Entry, Peer, Reply, Request, Row, is_peer, may_lock};
+use ups_life::{Configuration, Entry, Peer, Reply, Request, Row, StepUid, is_peer, may_lock};
 use ups_pdu::Ae;
 use ups_rules::verdict;
 use ups_tables::{
@@ -33,7 +33,7 @@ use ups_tables::{
 };
 
 /// What a request is about.
-#[derive(Clone, Copy, Debug, PartialEq, Eq)]
+#[derive(Clone, Copy, PartialEq, Eq)]
 pub(crate) enum Kind {
     /// A step, which it creates or changes.
     OfStep,
@@ -43,6 +43,8 @@ pub(crate) enum Kind {
     OfEvents(u64),
     /// The time for which finished steps are kept.
     OfTime,
+    /// A UID, under which no step is to be created.
+    OfUid(StepUid),
 }
 
 /// The reply to an accepted call, the plan of its effect on the tables, and its effect on the index.
@@ -111,6 +113,7 @@ fn kind_of<A: Allocator + Copy>(request: &Request<A>) -> Kind
         }
         Request::Ack { upto } => Kind::OfEvents(*upto),
         Request::Sweep => Kind::OfTime,
+        Request::Reserve { step } => Kind::OfUid(*step),
     }
 }
 
@@ -349,6 +352,25 @@ fn decide_sweep<A: Allocator + Copy>(
     })
 }
 
+/// Decides about the reservation of a UID. It is always accepted, and takes no memory.
+fn decide_reserve<A: Allocator + Copy>(
+    configuration: &Configuration<A>,
+    history: &History<A>,
+    tables: &Tables<A>,
+    call: &Entry<A>,
+    step: StepUid,
+) -> Decision<A>
+    requires stands { ManagerStands configuration.now history.now.entries tables.now }
+    requires kind { kind_of call.now.request ≡ OfUid step }
+    ensures { IsDecided configuration.now history.now.entries tables.now call.now result }
+{
+    Decision {
+        reply: Reply::Status(Status::Success),
+        plan: Plan::Reserve { step },
+        change: IndexChange::Nothing,
+    }
+}
+
 /// Decides about a call, provided that the history has room for it.
 ///
 /// Errors: the reply that refuses the call, or that says that memory ran out.
@@ -368,5 +390,6 @@ pub(crate) fn decide<A: Allocator + Copy>(
         Kind::OfWatcher => decide_watcher(alloc, configuration, history, tables, call),
         Kind::OfEvents(upto) => decide_ack(configuration, history, tables, call, upto),
         Kind::OfTime => decide_sweep(alloc, configuration, history, tables, call),
+        Kind::OfUid(step) => Ok(decide_reserve(configuration, history, tables, call, step)),
     }
 }

@@ -59,13 +59,14 @@ pub(crate) fn is_full<A: Allocator + Copy>(
 }
 
 /// The most entries in memory for which one is entered again, or one that makes room: a tenth more than for others, so
-/// that reports can be acknowledged in a full memory, and a start never lacks room that the run before it had.
+/// that reports can be acknowledged in a full memory, and a start never lacks room that the run before it had. Only a
+/// compaction reserves a UID, in the place of an entry that the run before it had.
 pub(crate) const MOST_IN_MEMORY: u64 = MAX_HISTORY / 10 * 11;
 
 /// Returns how many entries may be in memory so that a request is entered that is asked for.
 pub(crate) fn most_in_memory<A: Allocator + Copy>(request: &Request<A>) -> u64 {
     match request {
-        Request::Ack { .. } | Request::Sweep => MOST_IN_MEMORY,
+        Request::Ack { .. } | Request::Sweep | Request::Reserve { .. } => MOST_IN_MEMORY,
         _ => MAX_HISTORY,
     }
 }

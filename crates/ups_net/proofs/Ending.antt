@@ -5,7 +5,7 @@ use Rattle.std.specs.Vec.Iter.{into_iter_items, into_iter_len}
 use Rattle.std.specs.declared.vec.IntoIter.{IntoIter}
 use Rattle.std.proofs.lemmas.List.{append_assoc, append-nil, length-append, map-append, nil_from_length}
 use Rattle.ups_turn.specs.Pass.{PassView}
-use Rattle.ups_net.specs.declared.threads.options.ServerOptions.{ServerOptions}
+use Rattle.ups_net.specs.declared.options.ServerOptions.{ServerOptions}
 use Rattle.ups_net.specs.Working.{EndThreads, Ran}
 use Rattle.ups_net.specs.Sweeping.{Sweeps}
 

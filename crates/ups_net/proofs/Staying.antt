@@ -12,7 +12,7 @@ use Rattle.ups_turn.specs.Pass.{PassView, most_calls, HasObserved, IsServed, IsS
 use Rattle.ups_net.specs.Delivering.{CountsPending, FindsPending, DeliversTo, DeliversToAll, DeliversRounds}
 use Rattle.ups_net.specs.Sweeping.{LooksIfKept, Sweeps}
 use Rattle.ups_net.specs.Working.{Works, EndThreads, Ran}
-use Rattle.ups_net.specs.declared.threads.options.ServerOptions.{ServerOptions}
+use Rattle.ups_net.specs.declared.options.ServerOptions.{ServerOptions}
 use Rattle.ups_net.proofs.Served.{stays}
 
 module _ {A : Type 0} where

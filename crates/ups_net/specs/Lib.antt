@@ -1,5 +1,4 @@
 pub mod Delivering
-pub mod Leaving
 pub mod Sending
 pub mod Serving
 pub mod Sharing

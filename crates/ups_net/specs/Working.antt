@@ -4,7 +4,7 @@ use Rattle.ups_life.specs.declared.entry.Entry.{Entry}
 use Rattle.ups_net.specs.Delivering.{DeliversRounds}
 use Rattle.ups_net.specs.Serving.{ServesAssociations}
 use Rattle.ups_net.specs.Sweeping.{Sweeps}
-use Rattle.ups_net.specs.declared.threads.options.ServerOptions.{ServerOptions}
+use Rattle.ups_net.specs.declared.options.ServerOptions.{ServerOptions}
 use Rattle.ups_peers.specs.declared.watcher.Watcher.{Watcher}
 use Rattle.ups_turn.specs.Pass.{PassView}
 

@@ -1,35 +1,35 @@
-//! The server: workers that share a listener and a desk, each with a pass of its own, over TCP (PS3.8 section 9.1).
+//! The threads of a server, each with a pass of one desk: workers that share a listener, deliverers and the sweeper, and
+//! what they share.
 //!
 //! Nothing is promised about what a socket carries, or when: a contract here says what becomes of the passes, whatever
-//! was read. No contract covers time limits, the start of a round or the door.
-//!
-//! The folders are layers: the transport connection, the threads. A module uses those of its own folder, of the folder
-//! before it, and the ones beside them, which use none.
+//! was read. No contract covers time limits or the start of a round.
 #![tactic(auto)]
 
+mod bell;
 mod clock;
-mod requests;
-mod threads;
-mod transport;
+mod committer;
+mod counted;
+mod delivering;
+mod inspected;
+mod monitor;
+mod numbers;
+mod options;
+mod publisher;
+mod roster;
+mod server_state;
+mod serving;
+mod site;
+mod supervision;
+mod sweeping;
+mod workers;
 
 pub use clock::HostClock;
-pub use threads::delivering::deliver_rounds;
-pub use threads::options::{MetricsFile, ServerOptions};
-pub use threads::roster::{Roster, Share, is_passed_over, longer_pause, may_take, share_of};
-pub use threads::server_state::ServerState;
-pub use threads::serving::serve_one;
-pub use threads::site::Site;
-pub use threads::sweeping::sweep;
-pub use threads::workers::{run, work};
-pub use transport::backlog::waiting_at;
-pub use transport::connection::{Connection, Inlet, Outlet, ends_of};
-pub use transport::door::{Caller, Door};
-pub use transport::grace::{Pressure, idle_grace, message_grace, request_grace};
-pub use transport::network::Network;
-pub use transport::outward::Departing;
-pub use transport::patience::{Patience, answer_seconds, opening_milliseconds};
-pub use transport::sink::Sink;
-pub use transport::socket::tune;
-pub use transport::wire::{Deadline, TimeLimits, Wire, WireReader, WireWriter};
-pub use transport::wire_fault::WireFault;
+pub use delivering::deliver_rounds;
+pub use options::{MetricsFile, ServerOptions};
+pub use roster::{Roster, Share, is_passed_over, longer_pause, may_take, share_of};
+pub use server_state::ServerState;
+pub use serving::serve_one;
+pub use site::Site;
+pub use sweeping::sweep;
 pub use ups_peers::Watcher;
+pub use workers::{run, work};

@@ -7,7 +7,7 @@ use Rattle.ups_match.specs.Matching.{KeySet, is_match}
 use Rattle.ups_life.specs.declared.entry.Entry.{Entry}
 use Rattle.ups_life.specs.declared.peer.Peer.{Peer}
 use Rattle.ups_life.specs.declared.request.Request.{Request}
-use Rattle.ups_life.specs.declared.request.Request.TheVariants.{Create, Change, AskCancel, Set, Subscribe, Unsubscribe, Suspend, Ack, Sweep}
+use Rattle.ups_life.specs.declared.request.Request.TheVariants.{Create, Change, AskCancel, Set, Subscribe, Unsubscribe, Suspend, Ack, Sweep, Reserve}
 use Rattle.ups_life.specs.declared.watching.Subscription.{Subscription}
 use Rattle.ups_life.specs.declared.watching.Target.{Target}
 use Rattle.ups_life.specs.declared.watching.Target.TheVariants.{Single, Global, Filtered}
@@ -54,6 +54,7 @@ by_request ps w x y c d f (Unsubscribe place receiver) so = by_place (bytes_eq r
 by_request ps w x y c d f (Suspend receiver) so = by_end (bytes_eq receiver w) x y c d f so
 by_request ps w x y c d f (Ack upto) so = so
 by_request ps w x y c d f Sweep so = so
+by_request ps w x y c d f (Reserve step) so = so
 
 covers_by : {A : Type 0} (ps : List Peer) (es : List (Entry A)) (w : List ℕ) (x y : List El) → By (filter_now es w) x y (cover ps es w x) (cover ps es w y)
 covers_by ps [] w x y = refl

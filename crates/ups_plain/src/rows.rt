@@ -4,7 +4,7 @@ ghost use Rattle.std.specs.Prelude.{◌≡◌, ◌≤◌, ◌||◌, ◌∷◌, �
 ghost use Rattle.ups_dataset.specs.Data.{answer};
 ghost use Rattle.ups_match.specs.Matching.{is_match};
 ghost use Rattle.ups_life.specs.Settings.{IsMoment, IsOffset};
-ghost use Rattle.ups_life.specs.Steps.{past, is_on, creates, used, row, row_of, row_after, given, nothing};
+ghost use Rattle.ups_life.specs.Steps.{past, is_on, uses_uid, used, row, row_of, row_after, given, nothing};
 ghost use Rattle.ups_life.specs.History.{repeats};
 ghost use Rattle.ups_life.specs.Worklist.{worklist};
 ghost use Rattle.ups_life.specs.Telling.{IsWellFormed};
@@ -18,23 +18,26 @@ use ups_life::{ChangeFault, Configuration, Entry, Request, Row, Sets, StepUid};
 use ups_match::{Keys, Matcher, Probe};
 use ups_rules::change;
 
-fn creates<A: Allocator + Copy>(uid: &StepUid, request: &Request<A>) -> bool
-    ensures { result ≡ creates uid.now request.now }
+/// Returns whether a request creates a step with this UID, or reserves it.
+fn uses_uid<A: Allocator + Copy>(uid: &StepUid, request: &Request<A>) -> bool
+    ensures { result ≡ uses_uid uid.now request.now }
 {
     match request {
-        Request::Create { step, .. } => step.as_bytes() == uid.as_bytes(),
+        Request::Create { step, .. } | Request::Reserve { step } => {
+            step.as_bytes() == uid.as_bytes()
+        }
         _ => false,
     }
 }
 
-/// Returns whether a step with this UID was created before a request, or is created by it.
+/// Returns whether this UID was used before a request, or is used by it.
 fn used_after<A: Allocator + Copy>(uid: &StepUid, before: bool, request: &Request<A>) -> bool
-    ensures { result ≡ (creates uid.now request.now || before) }
+    ensures { result ≡ (uses_uid uid.now request.now || before) }
 {
-    creates(uid, request) || before
+    uses_uid(uid, request) || before
 }
 
-/// Returns whether a step with this UID was created.
+/// Returns whether a step with this UID was created, or the UID reserved.
 pub fn used<A: Allocator + Copy>(history: &[Entry<A>], uid: StepUid) -> bool
     ensures { result ≡ used (past history.now) uid }
 {

@@ -425,7 +425,8 @@ fn watch_after<A: Allocator + Copy>(
         | Request::AskCancel { .. }
         | Request::Suspend { .. }
         | Request::Ack { .. }
-        | Request::Sweep => Ok(before),
+        | Request::Sweep
+        | Request::Reserve { .. } => Ok(before),
     }
 }
 

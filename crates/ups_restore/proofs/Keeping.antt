@@ -6,7 +6,7 @@ use Rattle.std.proofs.lemmas.List.Elements.{All-get_or}
 use Rattle.std.specs.List.{All}
 use Rattle.ups_life.specs.declared.entry.Entry.{Entry}
 use Rattle.ups_life.specs.declared.request.Request.{Request}
-use Rattle.ups_life.specs.declared.request.Request.TheVariants.{Sweep}
+use Rattle.ups_life.specs.declared.request.Request.TheVariants.{Create, Sweep}
 use Rattle.ups_life.specs.Settings.{Settings, IsMoment}
 use Rattle.ups_life.specs.Steps.{past}
 use Rattle.ups_life.specs.History.{accepts, decided, reply, legal}
@@ -14,7 +14,7 @@ use Rattle.ups_life.proofs.Accepted.{legal_head, differ}
 use Rattle.ups_life.proofs.Past.{past-push}
 use Rattle.ups_service.specs.Law.{is_legal}
 use Rattle.ups_service.proofs.Legality.{beginning_legal}
-use Rattle.ups_compact.specs.Compacting.{is_left, sweeps_some, is_left_for, left_for}
+use Rattle.ups_compact.specs.Compacting.{is_left, sweeps_some, is_left_for, reservation, left_for}
 use Rattle.ups_compact.proofs.Accepting.{both}
 use Rattle.ups_compact.proofs.Kept.{removed_kept}
 use Rattle.ups_compact.proofs.KeptTold.{legal_kept}
@@ -23,6 +23,15 @@ use Rattle.ups_restore.specs.declared.fault.Refusal.TheVariants.{Refused, NoRoom
 use Rattle.ups_restore.specs.Replaying.{IsRefusal}
 use Rattle.ups_restore.specs.Compacting.{is_sweep}
 use Rattle.ups_restore.proofs.Legally.{only_room}
+
+-- a reservation has the moment of the creation
+reserved_moment : {A : Type 0} (e : Entry A) (q : Request A) (r : Entry A) → reservation e q ≡ r ∷ [] → r.moment ≡ e.moment
+reserved_moment {A} e (Create step attributes) r one = sym (ap (first_moment e.moment) one)
+  where
+    first_moment : ℕ → List (Entry A) → ℕ
+    first_moment m [] = m
+    first_moment m (x ∷ xs) = x.moment
+reserved_moment e q r one = absurd cc
 
 module _ {A : Type 0} (s : Settings) (steps : List (List ℕ)) (e : Entry A) (es : List (Entry A)) where
   other_sweeps_none : (r : Request A) → is_sweep r ≡ false → sweeps_some s steps es e.moment r ≡ false
@@ -39,10 +48,17 @@ module _ {A : Type 0} (s : Settings) (steps : List (List ℕ)) (e : Entry A) (es
   swept r h = absurd cc
 
   kept_next : is_left_for s steps e es ≡ true → left_for s steps (e ∷ es) ≡ e ∷ left_for s steps es
-  kept_next is = ap (λ (b : Bool). cond b (e ∷ left_for s steps es) (left_for s steps es)) is
+  kept_next is = ap (λ (b : Bool). cond b (e ∷ left_for s steps es) (reservation e e.request ++ left_for s steps es)) is
 
-  gone_next : is_left steps e.request ≡ false → sweeps_some s steps es e.moment e.request ≡ false → left_for s steps (e ∷ es) ≡ left_for s steps es
-  gone_next off none = ap (λ (b : Bool). cond (b || sweeps_some s steps es e.moment e.request) (e ∷ left_for s steps es) (left_for s steps es)) off ∙ ap (λ (b : Bool). cond b (e ∷ left_for s steps es) (left_for s steps es)) none
+  -- what remains of an entry that goes
+  gone_next : is_left steps e.request ≡ false → sweeps_some s steps es e.moment e.request ≡ false → left_for s steps (e ∷ es) ≡ reservation e e.request ++ left_for s steps es
+  gone_next off none =
+      ap (λ (b : Bool). cond (b || sweeps_some s steps es e.moment e.request) (e ∷ left_for s steps es) (reservation e e.request ++ left_for s steps es)) off
+      ∙ ap (λ (b : Bool). cond b (e ∷ left_for s steps es) (reservation e e.request ++ left_for s steps es)) none
+
+  no_reservation : (r : Request A) → is_sweep r ≡ true → reservation e r ≡ []
+  no_reservation Sweep h = refl
+  no_reservation r h = absurd cc
 
   left_is_kept : is_left steps e.request ≡ true → is_left_for s steps e es ≡ true
   left_is_kept is = ap (λ (b : Bool). b || sweeps_some s steps es e.moment e.request) is
@@ -74,13 +90,31 @@ module _ {A : Type 0} (s : Settings) (steps : List (List ℕ)) (e : Entry A) (es
     pub entered_sweep : is_sweep e.request ≡ true → t ≡ s → now ≡ old ++ e ∷ [] → is_legal t now → past now ≡ left_for s steps (e ∷ es)
     entered_sweep sweep same is ok = ap past is ∙ behind ∙ sym (kept_next (sweep_is_kept sweep (legal_there same is ok)))
 
-    -- neither goes on
-    pub passed_over : is_left steps e.request ≡ false → is_sweep e.request ≡ false → now ≡ old → past now ≡ left_for s steps (e ∷ es)
-    passed_over off none is = ap past is ∙ was ∙ sym (gone_next off (other_sweeps_none e.request none))
+    -- nothing remains
+    pub passed_over : is_left steps e.request ≡ false → is_sweep e.request ≡ false → reservation e e.request ≡ [] → now ≡ old → past now ≡ left_for s steps (e ∷ es)
+    passed_over off none nothing is =
+        ap past is ∙ was ∙ sym (gone_next off (other_sweeps_none e.request none) ∙ ap (λ (xs : List (Entry A)). xs ++ left_for s steps es) nothing)
+
+    -- a reservation remains
+    reserved_next : is_left steps e.request ≡ false → is_sweep e.request ≡ false → (r : Entry A) → reservation e e.request ≡ r ∷ [] → left_for s steps (e ∷ es) ≡ r ∷ left_for s steps es
+    reserved_next off none r one = gone_next off (other_sweeps_none e.request none) ∙ ap (λ (xs : List (Entry A)). xs ++ left_for s steps es) one
+
+    -- it is entered, or there is want of room
+    pub carried_reservation : {T : Type 0} → is_left steps e.request ≡ false → is_sweep e.request ≡ false → (r : Entry A) → reservation e e.request ≡ r ∷ [] → legal s (e ∷ es) ≡ true
+        → (result : Result T Refusal) → OnOk result (now ≡ old ++ r ∷ []) → IfErr result (λ x. IsRefusal s old r x)
+        → MatchResult result (λ _. past now ≡ left_for s steps (e ∷ es)) (λ x. IsMoment e.moment → x ≡ NoRoom)
+    carried_reservation off none r one l (Ok x) entered why =
+        ap past entered ∙ past-push old r ∙ ap (λ (xs : List (Entry A)). r ∷ xs) was ∙ sym (reserved_next off none r one)
+    carried_reservation off none r one l (Err x) entered why = λ at.
+        only_room s old r [] x
+        (subst (λ (xs : List (Entry A)). legal s xs ≡ true) (reserved_next off none r one ∙ sym (past-push old r ∙ ap (λ (xs : List (Entry A)). r ∷ xs) was)) (legal_kept s steps (e ∷ es) l))
+        (subst IsMoment (sym (reserved_moment e e.request r one)) at) why
 
     -- a sweep was refused
     pub refused_sweep : is_sweep e.request ≡ true → legal s (e ∷ es) ≡ true → now ≡ old → IsRefusal s old e Refused → past now ≡ left_for s steps (e ∷ es)
-    refused_sweep sweep l is why = ap past is ∙ was ∙ sym (gone_next (no_sweep_left e.request sweep) (none (sweeps_some s steps es e.moment e.request) refl))
+    refused_sweep sweep l is why =
+        ap past is ∙ was
+        ∙ sym (gone_next (no_sweep_left e.request sweep) (none (sweeps_some s steps es e.moment e.request) refl) ∙ ap (λ (xs : List (Entry A)). xs ++ left_for s steps es) (no_reservation e.request sweep))
       where
         none : (b : Bool) → sweeps_some s steps es e.moment e.request ≡ b → b ≡ false
         none true some =

@@ -1,6 +1,6 @@
 //! Entering those entries of a history that are kept in a compacted one.
 
-ghost use Rattle.std.specs.Prelude.{◌≡◌, ◌≤◌, ◌∷◌, ℕ, List, length, true, MatchResult};
+ghost use Rattle.std.specs.Prelude.{◌≡◌, ◌≤◌, ◌∷◌, ℕ, List, length, true, false, MatchResult};
 ghost use Rattle.std.specs.Global.{Global};
 ghost use Rattle.ups_life.specs.declared.entry.Entry.{Entry};
 ghost use Rattle.ups_life.specs.History.{legal};
@@ -9,14 +9,14 @@ ghost use Rattle.ups_life.specs.Steps.{past};
 ghost use Rattle.ups_journal.specs.Columns.{recorded};
 ghost use Rattle.ups_journal.specs.Writable.{IsWritableEntry};
 ghost use Rattle.ups_service.specs.Law.{is_legal};
-ghost use Rattle.ups_compact.specs.Compacting.{left_for};
+ghost use Rattle.ups_compact.specs.Compacting.{is_left, left_for};
 ghost use Rattle.ups_restore.specs.declared.fault.Refusal.TheVariants.{NoRoom};
 ghost use Rattle.ups_restore.specs.Compacting.{is_sweep, IsNoRefusal};
 
 use crate::fault::{CompactFault, Refusal, RestoreRefusal};
 use crate::replaying::replay_one;
 use std::alloc::Global;
-use ups_compact::KeptSteps;
+use ups_compact::{KeptSteps, reservation};
 use ups_journal::{Record, entry_of};
 use ups_life::{Entry, Request};
 use ups_manager::Manager;
@@ -49,8 +49,33 @@ fn enter_sweep(fresh: &mut Manager<Global>, entry: Entry<Global>) -> Result<(), 
     }
 }
 
+/// Enters what remains of an entry that is not kept for these steps, after those in the manager: of a creation, the
+/// reservation of its UID (PS3.4 CC.2.5).
+///
+/// Errors: `BadMoment`, `Refused` or `NoRoom`; the manager then stays the same.
+pub(crate) fn enter_reservation(
+    steps: &KeptSteps<Global>,
+    fresh: &mut Manager<Global>,
+    entry: &Entry<Global>,
+) -> Result<(), Refusal>
+    requires off { is_left steps.now entry.now.request ≡ false }
+    requires other { is_sweep entry.now.request ≡ false }
+    ensures carried { (es : List (Entry Global)) → legal fresh.old.settings (entry.now ∷ es) ≡ true → past fresh.old.history ≡ left_for fresh.old.settings steps.now es → MatchResult result (λ _. past fresh.new.history ≡ left_for fresh.old.settings steps.now (entry.now ∷ es)) (λ refusal. IsMoment entry.now.moment → refusal ≡ NoRoom) }
+    ensures more { length fresh.old.history ≤ length fresh.new.history }
+    ensures settings { fresh.new.settings ≡ fresh.old.settings }
+    ensures legal { is_legal fresh.new.settings fresh.new.history }
+{
+    match reservation(entry) {
+        Some(reserving) => replay_one(fresh, reserving),
+        None => {
+            let _history = fresh.history();
+            Ok(())
+        }
+    }
+}
+
 /// Enters an entry, after those in the manager, if it is kept for these steps: it is left for them, or is a sweep that
-/// removes one of them.
+/// removes one of them. Otherwise enters what remains of it.
 ///
 /// Errors: `BadMoment`, `Refused` or `NoRoom`; the manager then stays the same.
 fn enter_kept(
@@ -69,12 +94,12 @@ fn enter_kept(
     if steps.is_left(&entry.request) {
         return replay_one(fresh, entry);
     }
-    let _history = fresh.history();
-    Ok(())
+    enter_reservation(steps, fresh, &entry)
 }
 
 /// Enters the entry of a record of another history, after those in the manager, if it is kept for these steps: it is left
-/// for them, or is a sweep that removes one of them. The manager has the entries before it that are kept.
+/// for them, or is a sweep that removes one of them. Of another creation it enters a reservation of the UID. The manager
+/// has what is kept of the entries before it.
 ///
 /// # Errors
 ///

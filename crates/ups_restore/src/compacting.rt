@@ -13,8 +13,8 @@ ghost use Rattle.ups_restore.specs.declared.acknowledging.TheConstants.{COMPACTO
 ghost use Rattle.ups_restore.specs.Compacting.{HasPut, IsNoRefusal};
 
 use crate::acknowledging::acknowledge;
-use crate::carrying::{carry_record, is_sweep};
-use crate::fault::CompactFault;
+use crate::carrying::{carry_record, enter_reservation, is_sweep};
+use crate::fault::{CompactFault, RestoreRefusal};
 use crate::needed::steps_needed;
 use crate::putting::put_history;
 use std::alloc::{AllocError, Global};
@@ -26,7 +26,7 @@ use ups_life::Entry;
 use ups_manager::Manager;
 
 /// Enters an entry of another history again, as read from its record, after those in `fresh`, if it is kept for these
-/// steps. `fresh` has the entries before it that are kept.
+/// steps, and otherwise what remains of it. `fresh` has what is kept of the entries before it.
 ///
 /// Errors: those of an entry that can't be recorded; lack of memory. The manager then stays the same.
 fn carry(
@@ -41,7 +41,10 @@ fn carry(
 {
     let _history = fresh.history();
     if !is_sweep(&entry.request) && !steps.is_left(&entry.request) {
-        return Ok(());
+        return match enter_reservation(steps, fresh, entry) {
+            Ok(()) => Ok(()),
+            Err(refusal) => Err(CompactFault::Entering(RestoreRefusal::Entry(refusal))),
+        };
     }
     let stored = record_of(alloc, entry)?;
     carry_record(alloc, steps, fresh, &stored)
@@ -72,8 +75,17 @@ fn carry_each(
     Ok(())
 }
 
-/// Gives a new manager the compacted history of another, as [`compact_into`] does.
-fn compact(
+/// Gives a new manager the compacted history of another: the entries that are kept for the steps needed, which are those
+/// held and those of which an event is pending, with a reservation of the UID in the place of the creation of each other
+/// step, followed by one acknowledgement of each watcher that knows some of its events. So no watcher is told again what
+/// it knows, none misses a report, and no UID is used again. The acknowledgements are made at `moment`, by
+/// [`COMPACTOR`](crate::COMPACTOR).
+///
+/// # Errors
+///
+/// `Recording` at the first entry that has no record, or if one has left memory; `Entering` at the first that is not
+/// entered (unless two peers have the same title, only if memory runs out); `Memory` if memory runs out.
+pub fn compact(
     alloc: Global,
     manager: &Manager<Global>,
     fresh: &mut Manager<Global>,
@@ -97,16 +109,12 @@ fn compact(
     acknowledge(alloc, manager, fresh, moment)
 }
 
-/// Gives a new manager the compacted history of another: the entries that are kept for the steps needed, which are those
-/// held and those of which an event is pending, followed by one acknowledgement of each watcher that knows some of its
-/// events. So no watcher is told again what it knows, and none misses a report. The acknowledgements are made at `moment`,
-/// by [`COMPACTOR`](crate::COMPACTOR). Then appends the records of the new history to a ledger, in groups.
+/// Gives a new manager the compacted history of another, as [`compact`] does. Then appends the records of the new history to
+/// a ledger, in groups.
 ///
 /// # Errors
 ///
-/// `Recording` at the first entry that has no record; `Entering` at the first that is not entered (unless two peers have
-/// the same title, only if memory runs out); `Ledger` if the ledger does not take records (those that it took stay there);
-/// `Memory` if memory runs out.
+/// Those of [`compact`]; `Ledger` if the ledger does not take records (those that it took stay there).
 pub fn compact_into<L: Ledger>(
     alloc: Global,
     manager: &Manager<Global>,
@@ -133,7 +141,7 @@ pub fn compact_into<L: Ledger>(
 }
 
 /// Returns whether a compaction of a manager's history pays: fewer of its entries are left for the steps needed than go,
-/// without the sweeps.
+/// sweeps and new reservations not counted.
 ///
 /// # Errors
 ///

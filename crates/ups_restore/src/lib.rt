@@ -14,7 +14,7 @@ mod restoring;
 
 pub use acknowledging::{COMPACTOR, acknowledge};
 pub use carrying::carry_record;
-pub use compacting::{compact_into, compaction_pays};
+pub use compacting::{compact, compact_into, compaction_pays};
 pub use fault::{CompactFault, Refusal, ReplayFault, RestoreFault, RestoreRefusal};
 pub use leaving::{Restoration, Restored, restore_each};
 pub use needed::steps_needed;

@@ -190,7 +190,8 @@ pub fn verdict<A: Allocator + Copy>(
             | Request::Unsubscribe { .. }
             | Request::Suspend { .. }
             | Request::Ack { .. }
-            | Request::Sweep,
+            | Request::Sweep
+            | Request::Reserve { .. },
             _,
         ) => Status::Success,
         (_, None) => Status::UnknownInstance,

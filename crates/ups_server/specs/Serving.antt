@@ -13,7 +13,7 @@ use Rattle.ups_life.specs.declared.entry.Entry.{Entry}
 use Rattle.ups_manager.specs.declared.manager.TheConstants.{LASTING_LIMIT}
 use Rattle.ups_life.specs.Settings.{Settings}
 use Rattle.ups_net.specs.Working.{Ran}
-use Rattle.ups_net.specs.declared.threads.options.ServerOptions.{ServerOptions}
+use Rattle.ups_net.specs.declared.options.ServerOptions.{ServerOptions}
 use Rattle.ups_pdu.specs.Title.{SpellsAe}
 use Rattle.ups_service.specs.State.{State}
 use Rattle.ups_peers.specs.Limits.{turns_limit, workers_limit}

@@ -17,8 +17,8 @@ use std::alloc::{AllocError, Global};
 use std::str;
 use ups_args::{ArgumentFault, ServeArguments, serve_arguments};
 use ups_ledger::Ledger;
-use ups_net::Network;
 use ups_peers::Watcher;
+use ups_transport::Network;
 
 /// Looks the host of a watcher up, and logs its addresses, or that it has none: a server starts all the same, and looks it
 /// up again for each delivery.

@@ -27,8 +27,9 @@ use ups_args::{ArgumentFault, ServeArguments, VERSION, serve_arguments};
 use ups_assoc::Config;
 use ups_ledger::{Commits, Keeper, Keeping, Ledger};
 use ups_manager::Manager;
-use ups_net::{Door, MetricsFile, Network, ServerOptions, ServerState, run};
+use ups_net::{MetricsFile, ServerOptions, ServerState, run};
 use ups_peers::MAX_WORKERS;
+use ups_transport::{Door, Network};
 use ups_turn::{Desk, Pass};
 
 /// What a server leaves: whether its threads began, its desk, its passes, and its ledger.

@@ -25,7 +25,7 @@ mod terms;
 pub use beginning::begin;
 pub use fault::StartFault;
 pub use file::{FilePlace, FileStoreOf};
-pub use laws::a_start_has_what_answers_rest_on;
+pub use laws::{a_start_has_what_answers_rest_on, a_start_stands_for_the_same_log};
 pub use ledger::StoreLedger;
 pub use making::create;
 pub use place::StorePlace;

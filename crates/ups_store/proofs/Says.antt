@@ -6,7 +6,7 @@ use Rattle.ups_cycle.specs.declared.state.StepState.{StepState}
 use Rattle.ups_cycle.specs.declared.state.StepState.TheVariants.{Scheduled, InProgress, Completed, Canceled}
 use Rattle.ups_journal.specs.Operations.{name_of}
 use Rattle.ups_journal.specs.declared.operation.RecordedOperation.{RecordedOperation}
-use Rattle.ups_journal.specs.declared.operation.RecordedOperation.TheVariants.{Create, Change, AskCancel, Set, Subscribe, Unsubscribe, Suspend, Acknowledge, Sweep}
+use Rattle.ups_journal.specs.declared.operation.RecordedOperation.TheVariants.{Create, Change, AskCancel, Set, Subscribe, Unsubscribe, Suspend, Acknowledge, Sweep, Reserve}
 use Rattle.ups_journal.specs.declared.record.Columns.{Columns}
 use Rattle.ups_store.specs.declared.request.StoredRequest.{StoredRequest}
 use Rattle.ups_store.specs.Words.{operation_named, state_named}
@@ -24,6 +24,7 @@ operation_again Unsubscribe = refl
 operation_again Suspend = refl
 operation_again Acknowledge = refl
 operation_again Sweep = refl
+operation_again Reserve = refl
 
 state_again : (s : Option StepState) → state_in (state_cell s) ≡ s
 unfolding state_named

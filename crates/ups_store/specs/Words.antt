@@ -6,7 +6,7 @@ use Rattle.ups_cycle.specs.declared.state.StepState.{StepState}
 use Rattle.ups_cycle.specs.declared.state.StepState.TheVariants.{Scheduled, InProgress, Completed, Canceled}
 use Rattle.ups_journal.specs.Operations.{name_of}
 use Rattle.ups_journal.specs.declared.operation.RecordedOperation.{RecordedOperation}
-use Rattle.ups_journal.specs.declared.operation.RecordedOperation.TheVariants.{Create, Change, AskCancel, Set, Subscribe, Unsubscribe, Suspend, Acknowledge, Sweep}
+use Rattle.ups_journal.specs.declared.operation.RecordedOperation.TheVariants.{Create, Change, AskCancel, Set, Subscribe, Unsubscribe, Suspend, Acknowledge, Sweep, Reserve}
 
 unfoldable pub operation_named : List ℕ → Option RecordedOperation
 operation_named text =
@@ -18,7 +18,8 @@ operation_named text =
     if bytes_eq text (name_of Unsubscribe) then Some Unsubscribe else (
     if bytes_eq text (name_of Suspend) then Some Suspend else (
     if bytes_eq text (name_of Acknowledge) then Some Acknowledge else (
-    if bytes_eq text (name_of Sweep) then Some Sweep else None))))))))
+    if bytes_eq text (name_of Sweep) then Some Sweep else (
+    if bytes_eq text (name_of Reserve) then Some Reserve else None)))))))))
 
 unfoldable pub state_named : List ℕ → Option StepState
 state_named text =

@@ -29,6 +29,8 @@ pub(crate) fn operation_named(text: &[u8]) -> Option<RecordedOperation>
         Some(RecordedOperation::Acknowledge)
     } else if text == RecordedOperation::Sweep.name() {
         Some(RecordedOperation::Sweep)
+    } else if text == RecordedOperation::Reserve.name() {
+        Some(RecordedOperation::Reserve)
     } else {
         None
     }

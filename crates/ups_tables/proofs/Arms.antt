@@ -4,7 +4,7 @@ use Rattle.std.specs.Prelude.{is_some}
 use Rattle.ups_life.specs.declared.entry.Entry.{Entry}
 use Rattle.ups_life.specs.declared.event.Report.{Report}
 use Rattle.ups_life.specs.declared.request.Request.{Request}
-use Rattle.ups_life.specs.declared.request.Request.TheVariants.{Create, Change, AskCancel, Set, Subscribe, Unsubscribe, Suspend, Ack, Sweep}
+use Rattle.ups_life.specs.declared.request.Request.TheVariants.{Create, Change, AskCancel, Set, Subscribe, Unsubscribe, Suspend, Ack, Sweep, Reserve}
 use Rattle.ups_life.specs.declared.row.Row.{Row}
 use Rattle.ups_life.specs.declared.watching.Subscription.{Subscription}
 use Rattle.ups_life.specs.Settings.{Settings}
@@ -63,6 +63,7 @@ module _ {A : Type 0} (s : Settings) (history : List (Entry A)) (e : Entry A) (t
       new (Suspend receiver) n = refl
       new (Ack upto) n = refl
       new Sweep n = refl
+      new (Reserve u) n = refl
 
   pub set_here : (step : List ℕ) (held_now : HeldRow A) (told : List Report) (newly : List (Option Subscription)) (first : List Report) → PlansSet s (past history) e t step held_now told newly first → holds t step ≡ true
   set_here step held_now told newly first p =

@@ -29,11 +29,11 @@ use Rattle.ups_life.proofs.Accepted.{said, succeeded, legal_tail, created_fresh,
 use Rattle.ups_keep.specs.declared.due.Final.{Final}
 use Rattle.ups_keep.specs.Waits.{steps_of}
 use Rattle.ups_tables.specs.HeldSteps.{held_step, held_steps}
-use Rattle.ups_tables.specs.Live.{cover_to, cover_left, global, live, final, locked, chosen, queue, any_lock, news, newly_by, IsLive, is_of_no_step, is_of_cover, is_create}
+use Rattle.ups_tables.specs.Live.{cover_to, cover_left, global, live, final, locked, chosen, queue, any_lock, news, newly_by, IsLive, is_of_no_step, is_of_cover, is_of_uid}
 use Rattle.ups_tables.proofs.Living.{newly-covers, live_set}
 use Rattle.ups_tables.proofs.Finals.{not_held}
 use Rattle.ups_tables.proofs.Queueing.{queue_set}
-use Rattle.ups_tables.proofs.Keeping.{global_same, used_same, after_create, after_change, after_subscribe, after_unsubscribe, after_suspend, after_ack, after_sweep}
+use Rattle.ups_tables.proofs.Keeping.{global_same, used_same, after_create, after_change, after_subscribe, after_unsubscribe, after_suspend, after_ack, after_reserve, after_sweep}
 use Rattle.ups_tables.proofs.Holding.{steps_same, steps_sweep}
 use Rattle.ups_tables.proofs.Outside.{no_live}
 use Rattle.ups_tables.proofs.Asking.{chosen_one}
@@ -47,8 +47,8 @@ use Rattle.ups_tables.specs.Held.{held_at, put_held}
 use Rattle.ups_tables.specs.Fit.{how, queue_line, uses, TablesFit}
 use Rattle.ups_tables.specs.Places.{place_of_title, by_place}
 use Rattle.ups_tables.specs.Stands.{cover_of, how_of, queue_of, entries_of, Lives, Stands}
-use Rattle.ups_tables.specs.Planned.{PlansCreate, PlansChange, PlansSet, PlansSingle, PlansGlobal, PlansEnd, PlansEndAll, PlansSuspend, PlansAck, PlansSweep, PlansIdle}
-use Rattle.ups_tables.specs.Effects.{IsCreated, IsChanged, IsSubscribed, IsUnsubscribed, IsSuspended, AcknowledgesUpto, IsSwept}
+use Rattle.ups_tables.specs.Planned.{PlansCreate, PlansChange, PlansSet, PlansSingle, PlansGlobal, PlansEnd, PlansEndAll, PlansSuspend, PlansAck, PlansReserve, PlansSweep, PlansIdle}
+use Rattle.ups_tables.specs.Effects.{IsCreated, IsChanged, IsSubscribed, IsUnsubscribed, IsSuspended, AcknowledgesUpto, ReservesUid, IsSwept}
 use Rattle.ups_tables.proofs.Fitness.{same_none}
 use Rattle.ups_tables.proofs.Titled.{set_at, place_within}
 use Rattle.ups_tables.proofs.Saying.{bare, held_is, put_entries, left_entries, covers_stay, hows_stay, queues_stay}
@@ -247,7 +247,7 @@ module _ {A : Type 0} (s : Settings) (history after : List (Entry A)) (e : Entry
         covers = λ w. covers_stay s.peers t t' w c.covers ∙ old.lives.covers w ∙ sym (global_same s.peers e (past history) w (ap is_of_cover p.request));
         pairs = pairs_are;
         queues = λ w. set_queues step held newly p.transaction p.attributes p.request here (λ q. p.newly_are q) c.hows c.queues pairs_are w;
-        used = λ u. c.used u ∙ old.lives.used u ∙ sym (used_same e (past history) u (ap is_create p.request));
+        used = λ u. c.used u ∙ old.lives.used u ∙ sym (used_same e (past history) u (ap is_of_uid p.request));
       })
 
   -- A WATCHER IS SUBSCRIBED
@@ -378,6 +378,16 @@ module _ {A : Type 0} (s : Settings) (history after : List (Entry A)) (e : Entry
       (λ w. covers_stay s.peers t t' w c.covers) (λ w u. hows_stay s.peers t t' w u (λ q. c.hows q u)) (λ u. refl) (λ u. refl)
       (λ w. one_at e.ae w peer empty_line (acked_to upto) (λ q. queue_line t q) (λ q. queue_line t' q) p.place (λ q. c.queues q))
       c.used))
+
+  -- A UID IS RESERVED
+
+  pub stands_reserve : (step : List ℕ) → PlansReserve e step → ReservesUid step t t' → TablesFit t' → Stands s after t'
+  stands_reserve step p c fits =
+      stands s history after e t t' old is l (c.steps ∙ old.steps ∙ ap entries_of (sym (steps_same s e (past history) (ap is_of_no_step p.request)))) (ap length c.covers) fits
+      (from_live s (e ∷ past history) t' _ _
+      (after_reserve s e (past history) step (cover_of s.peers t) (cover_of s.peers t') (how_of s.peers t) (how_of s.peers t') (final s (past history)) (final s (past history)) (locked s (past history)) (locked s (past history))
+      (queue_of s.peers t) (queue_of s.peers t') (uses t) (uses t') (to_live s (past history) t old.lives) l p.request
+      (λ w. covers_stay s.peers t t' w c.covers) (λ w u. hows_stay s.peers t t' w u (λ q. c.hows q u)) (λ u. refl) (λ u. refl) (λ w. queues_stay s.peers t t' w c.queues) c.used))
 
   -- A SWEEP
 

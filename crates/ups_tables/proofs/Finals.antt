@@ -5,16 +5,16 @@ use Rattle.std.specs.Str.{bytes_eq}
 use Rattle.ups_dataset.specs.Data.{El}
 use Rattle.ups_life.specs.declared.entry.Entry.{Entry}
 use Rattle.ups_life.specs.declared.request.Request.{Request}
-use Rattle.ups_life.specs.declared.request.Request.TheVariants.{Create, Change, AskCancel, Set, Subscribe, Unsubscribe, Suspend, Ack, Sweep}
+use Rattle.ups_life.specs.declared.request.Request.TheVariants.{Create, Change, AskCancel, Set, Subscribe, Unsubscribe, Suspend, Ack, Sweep, Reserve}
 use Rattle.ups_life.specs.Settings.{Settings}
 use Rattle.ups_cycle.specs.States.{is_final}
-use Rattle.ups_life.specs.Steps.{used, creates, is_on, is_step, step_of, state, finished, final_at}
+use Rattle.ups_life.specs.Steps.{used, creates, uses_uid, is_on, is_step, step_of, state, finished, final_at}
 use Rattle.ups_life.specs.Watching.{is_due, held_after, held, is_held, is_among, removed}
 use Rattle.ups_life.specs.History.{legal}
 use Rattle.ups_tables.specs.Live.{final, is_of_no_step}
 use Rattle.ups_life.proofs.Texts.{same_text, text_is_itself}
 use Rattle.ups_life.proofs.Accepted.{succeeded, legal_tail, neither, differ}
-use Rattle.ups_life.proofs.HeldOnce.{is_held_used}
+use Rattle.ups_life.proofs.HeldOnce.{is_held_used, creates_none}
 use Rattle.ups_life.proofs.OneHolder.{not_on}
 use Rattle.ups_keep.proofs.Waiting.{is_false}
 use Rattle.ups_tables.proofs.Among.{among_filter, among_push}
@@ -23,8 +23,8 @@ use Rattle.ups_tables.proofs.Among.{among_filter, among_push}
 pub never_final : {A : Type 0} (s : Settings) (es : List (Entry A)) (u : List ℕ) → legal s es ≡ true → used es u ≡ false → final_at es u ≡ None
 never_final s [] u l f = refl
 never_final s (e ∷ es) u l f =
-    let fresh = neither (creates u e.request) (used es u) f in
-    ap (λ b. cond b (option_or (finished (state es u) e.moment e.request) (final_at es u)) (final_at es u)) (not_on s es u e.request (succeeded s e es l) fresh.1 fresh.0)
+    let fresh = neither (uses_uid u e.request) (used es u) f in
+    ap (λ b. cond b (option_or (finished (state es u) e.moment e.request) (final_at es u)) (final_at es u)) (not_on s es u e.request (succeeded s e es l) fresh.1 (creates_none u e.request fresh.0))
     ∙ never_final s es u (legal_tail s e es l) fresh.1
 
 -- what was never created is not held
@@ -95,7 +95,7 @@ final_sweep {A} s e es u is =
     at true false = refl
     at false due = refl
 
--- a request for a watcher, and an acknowledgement: no step
+-- a request for a watcher, an acknowledgement, and the reservation of a UID: no step
 pub final_same : {A : Type 0} (s : Settings) (e : Entry A) (es : List (Entry A)) (u : List ℕ) → is_of_no_step e.request ≡ true → final s (e ∷ es) u ≡ final s es u
 final_same {A} s e es u none = at e.request none
   where
@@ -104,4 +104,5 @@ final_same {A} s e es u none = at e.request none
     at (Unsubscribe place receiver) h = refl
     at (Suspend receiver) h = refl
     at (Ack upto) h = refl
+    at (Reserve step) h = refl
     at r h = absurd cc

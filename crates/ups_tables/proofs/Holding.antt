@@ -4,7 +4,7 @@ use Rattle.std.specs.Option.{option_or, option_map, unwrap_or}
 use Rattle.std.specs.Str.{bytes_eq}
 use Rattle.std.specs.List.{list_any}
 use Rattle.ups_life.specs.declared.request.Request.{Request}
-use Rattle.ups_life.specs.declared.request.Request.TheVariants.{Create, Change, AskCancel, Set, Subscribe, Unsubscribe, Suspend, Ack, Sweep}
+use Rattle.ups_life.specs.declared.request.Request.TheVariants.{Create, Change, AskCancel, Set, Subscribe, Unsubscribe, Suspend, Ack, Sweep, Reserve}
 use Rattle.ups_life.specs.declared.entry.Entry.{Entry}
 use Rattle.ups_life.specs.declared.row.Row.{Row}
 use Rattle.ups_life.specs.declared.row.Holder.{Holder}
@@ -12,12 +12,12 @@ use Rattle.ups_cycle.specs.declared.status.Status.TheVariants.{Success}
 use Rattle.ups_life.specs.Settings.{Settings}
 use Rattle.ups_life.specs.Distinct.{Distinct}
 use Rattle.ups_life.specs.Verdict.{verdict}
-use Rattle.ups_life.specs.Steps.{Claim, is_on, is_step, step_of, creates, used, row_of, row_after, nothing, holder, claim, taken}
+use Rattle.ups_life.specs.Steps.{Claim, is_on, is_step, step_of, uses_uid, used, row_of, row_after, nothing, holder, claim, taken}
 use Rattle.ups_life.specs.Watching.{is_among, is_due, held, held_after, is_held, known, removed}
 use Rattle.ups_life.specs.History.{repeats, legal}
 use Rattle.ups_life.proofs.Texts.{same_text, text_is_itself}
 use Rattle.ups_life.proofs.Accepted.{succeeded, legal_tail, created_fresh, on_held, neither, differ}
-use Rattle.ups_life.proofs.HeldOnce.{held_once}
+use Rattle.ups_life.proofs.HeldOnce.{held_once, creates_none}
 use Rattle.ups_tables.specs.declared.rows.HeldStep.{HeldStep}
 use Rattle.ups_tables.specs.Live.{is_of_no_step}
 use Rattle.ups_tables.proofs.Among.{or_first, or_second, among_filter}
@@ -68,8 +68,8 @@ on_another s e es u off = rw off refl
 never : {A : Type 0} (s : Settings) (es : List (Entry A)) (u : List ℕ) → legal s es ≡ true → used es u ≡ false → held_step s es u ≡ record { step = u; row = nothing; holder = None }
 never s [] u l f = refl
 never {A} s (e ∷ es) u l f =
-    let fresh = neither (creates u e.request) (used es u) f in
-    on_another s e es u (not_on s es u e.request (succeeded s e es l) fresh.1 fresh.0) ∙ never s es u (legal_tail s e es l) fresh.1
+    let fresh = neither (uses_uid u e.request) (used es u) f in
+    on_another s e es u (not_on s es u e.request (succeeded s e es l) fresh.1 (creates_none u e.request fresh.0)) ∙ never s es u (legal_tail s e es l) fresh.1
 
 -- what is known of the step of a request that is allowed, and who has claimed it
 record Known {A : Type 0} (s : Settings) (es : List (Entry A)) (u : List ℕ) : Type 0 where
@@ -232,6 +232,7 @@ steps_same {A} s e es none = at e.request none
     off (Unsubscribe place receiver) h v = refl
     off (Suspend receiver) h v = refl
     off (Ack upto) h v = refl
+    off (Reserve step) h v = refl
     off r h v = absurd cc
 
     at : (r : Request A) → is_of_no_step r ≡ true → map (held_step s (e ∷ es)) (held_after s es e.moment (held s es) r) ≡ held_steps s es
@@ -239,6 +240,7 @@ steps_same {A} s e es none = at e.request none
     at (Unsubscribe place receiver) h = unmoved s e es (held s es) (off e.request none)
     at (Suspend receiver) h = unmoved s e es (held s es) (off e.request none)
     at (Ack upto) h = unmoved s e es (held s es) (off e.request none)
+    at (Reserve step) h = unmoved s e es (held s es) (off e.request none)
     at r h = absurd cc
 
 -- a sweep leaves what is held of the steps that it doesn't remove

@@ -8,18 +8,18 @@ use Rattle.ups_dataset.specs.Data.{El}
 use Rattle.ups_life.specs.declared.entry.Entry.{Entry}
 use Rattle.ups_life.specs.declared.peer.Peer.{Peer}
 use Rattle.ups_life.specs.declared.request.Request.{Request}
-use Rattle.ups_life.specs.declared.request.Request.TheVariants.{Create, Change, AskCancel, Set, Subscribe, Unsubscribe, Suspend, Ack, Sweep}
+use Rattle.ups_life.specs.declared.request.Request.TheVariants.{Create, Change, AskCancel, Set, Subscribe, Unsubscribe, Suspend, Ack, Sweep, Reserve}
 use Rattle.ups_watch.specs.declared.cover.Cover.{Cover}
 use Rattle.ups_life.specs.declared.watching.Subscription.{Subscription}
 use Rattle.ups_life.specs.declared.watching.Target.{Target}
 use Rattle.ups_life.specs.declared.watching.Place.{Place}
 use Rattle.ups_life.specs.Settings.{Settings}
-use Rattle.ups_life.specs.Steps.{row, used, creates, is_step, step_of, final_at}
+use Rattle.ups_life.specs.Steps.{row, used, creates, uses_uid, is_step, step_of, final_at}
 use Rattle.ups_life.specs.Watching.{granted, is_at, is_locked, is_held, is_among, removed}
 use Rattle.ups_life.specs.Events.{as_it_is}
 use Rattle.ups_life.specs.History.{legal}
 use Rattle.ups_watch.specs.Covers.{covered}
-use Rattle.ups_tables.specs.Live.{cover_to, cover_left, global_then, global, live, locked, final, chosen, queue, news, any_lock, IsLive, is_of_no_step, is_of_cover, is_create, is_set, is_of_watch, is_silent}
+use Rattle.ups_tables.specs.Live.{cover_to, cover_left, global_then, global, live, locked, final, chosen, queue, news, any_lock, IsLive, is_of_no_step, is_of_cover, is_of_uid, is_set, is_of_watch, is_silent}
 use Rattle.ups_events.specs.Telling.{Line, told, acked_to}
 use Rattle.ups_life.proofs.Texts.{same_text, text_is_itself}
 use Rattle.ups_life.proofs.Accepted.{said, succeeded, legal_tail, created_fresh, on_held, differ}
@@ -40,6 +40,7 @@ global_same {A} peers e es w none = at e.request none
     at (Set step t set) h = refl
     at (Ack upto) h = refl
     at Sweep h = refl
+    at (Reserve step) h = refl
     at r h = absurd cc
 
 -- LOCKS
@@ -68,12 +69,15 @@ cond_both b c x y z v p q r = ap (λ t. cond t x y) p ∙ ap (λ t. cond c t y) 
 -- USED
 
 pub used_create : {A : Type 0} (e : Entry A) (es : List (Entry A)) (step u : List ℕ) (set : List El) → e.request ≡ Create step set → used (e ∷ es) u ≡ (bytes_eq step u || used es u)
-used_create {A} e es step u set is = ap (λ (r : Request A). creates u r || used es u) is
+used_create {A} e es step u set is = ap (λ (r : Request A). uses_uid u r || used es u) is
 
-pub used_same : {A : Type 0} (e : Entry A) (es : List (Entry A)) (u : List ℕ) → is_create e.request ≡ false → used (e ∷ es) u ≡ used es u
+pub used_reserve : {A : Type 0} (e : Entry A) (es : List (Entry A)) (step u : List ℕ) → e.request ≡ Reserve step → used (e ∷ es) u ≡ (bytes_eq step u || used es u)
+used_reserve {A} e es step u is = ap (λ (r : Request A). uses_uid u r || used es u) is
+
+pub used_same : {A : Type 0} (e : Entry A) (es : List (Entry A)) (u : List ℕ) → is_of_uid e.request ≡ false → used (e ∷ es) u ≡ used es u
 used_same {A} e es u none = at e.request none
   where
-    at : (r : Request A) → is_create r ≡ false → (creates u r || used es u) ≡ used es u
+    at : (r : Request A) → is_of_uid r ≡ false → (uses_uid u r || used es u) ≡ used es u
     at (Create step set) h = absurd cc
     at (Change step state t) h = refl
     at (AskCancel step reasons) h = refl
@@ -83,6 +87,7 @@ used_same {A} e es u none = at e.request none
     at (Suspend receiver) h = refl
     at (Ack upto) h = refl
     at Sweep h = refl
+    at (Reserve step) h = absurd cc
 
 -- EACH KIND OF REQUEST
 
@@ -133,7 +138,7 @@ after_change {A} s e es step cov cov' how how' fin fin' lck lck' q q' us us' old
   locks = λ u. c_lck u ∙ old.locks u ∙ sym (lock_same s e es u (λ w. same w u));
   queues = λ w. c_q w ∙ cond_both (is_some (how w step)) (is_some (live s (e ∷ es) w step)) (told (length es) (news s es e step) (q w)) (q w) (told (length es) (news s es e step) (queue s es w)) (queue s es w)
       (ap is_some (old.pairs w step ∙ sym (same w step))) (ap (told (length es) (news s es e step)) (old.queues w)) (old.queues w) ∙ sym (queue_on s e es w step l on (no_set e.request none));
-  used = λ u. c_us u ∙ old.used u ∙ sym (used_same e es u (no_create e.request none));
+  used = λ u. c_us u ∙ old.used u ∙ sym (used_same e es u (no_uid e.request on none));
 }
   where
     on_cover : (r : Request A) → step_of r ≡ Some step → is_of_cover r ≡ false
@@ -148,6 +153,7 @@ after_change {A} s e es step cov cov' how how' fin fin' lck lck' q q' us us' old
     new (AskCancel step reasons) n = refl
     new (Suspend receiver) n = refl
     new (Ack upto) n = refl
+    new (Reserve u) n = refl
     new r n = absurd cc
 
     no_set : (r : Request A) → is_of_watch r ≡ false → is_set r ≡ false
@@ -155,14 +161,13 @@ after_change {A} s e es step cov cov' how how' fin fin' lck lck' q q' us us' old
     no_set (AskCancel step reasons) n = refl
     no_set (Suspend receiver) n = refl
     no_set (Ack upto) n = refl
+    no_set (Reserve u) n = refl
     no_set r n = absurd cc
 
-    no_create : (r : Request A) → is_of_watch r ≡ false → is_create r ≡ false
-    no_create (Change step state t) n = refl
-    no_create (AskCancel step reasons) n = refl
-    no_create (Suspend receiver) n = refl
-    no_create (Ack upto) n = refl
-    no_create r n = absurd cc
+    no_uid : (r : Request A) → step_of r ≡ Some step → is_of_watch r ≡ false → is_of_uid r ≡ false
+    no_uid (Change step state t) h n = refl
+    no_uid (AskCancel step reasons) h n = refl
+    no_uid r h n = absurd cc
 
     here : is_held s es step ≡ true
     here = on_held s es step e.request (succeeded s e es l) (ap (is_step step) on ∙ text_is_itself step) (new e.request none)
@@ -187,7 +192,7 @@ after_subscribe {A} s e es target receiver lock cov cov' how how' fin fin' lck l
   locks = locks_again s e es how' lck lck' (λ u. is_among u (chosen s es target)) pairs_are old.locks
       (λ u other w. live_subscribe s e es w u target receiver lock is ∙ ap (λ b. cond (bytes_eq receiver w && b) (Some (granted s.peers receiver lock)) (live s es w u)) other ∙ nobody (bytes_eq receiver w) (Some (granted s.peers receiver lock)) (live s es w u)) c_lck;
   queues = λ w. c_q w ∙ ap (λ (k : Line). cond (bytes_eq receiver w) (told (length es) (map (as_it_is s es) (chosen s es target)) k) k) (old.queues w) ∙ sym (queue_subscribe s e es w target receiver lock (legal_tail s e es l) is);
-  used = λ u. c_us u ∙ old.used u ∙ sym (used_same e es u (ap is_create is));
+  used = λ u. c_us u ∙ old.used u ∙ sym (used_same e es u (ap is_of_uid is));
 }
   where
     nobody : {X : Type 0} (b : Bool) (x y : X) → cond (b && false) x y ≡ y
@@ -216,7 +221,7 @@ after_unsubscribe {A} s e es place receiver steps cov cov' how how' fin fin' lck
   locks = locks_again s e es how' lck lck' (λ u. is_among u steps) pairs_are old.locks
       (λ u other w. live_unsubscribe s e es w u place receiver is ∙ unmoved u other w (bytes_eq receiver w) refl (is_at place u) refl (live s es w u) refl) c_lck;
   queues = λ w. c_q w ∙ old.queues w ∙ sym (queue_same s e es w (legal_tail s e es l) (ap is_silent is));
-  used = λ u. c_us u ∙ old.used u ∙ sym (used_same e es u (ap is_create is));
+  used = λ u. c_us u ∙ old.used u ∙ sym (used_same e es u (ap is_of_uid is));
 }
   where
     pairs_are : (w u : List ℕ) → how' w u ≡ live s (e ∷ es) w u
@@ -246,7 +251,7 @@ after_suspend {A} s e es receiver cov cov' how how' fin fin' lck lck' q q' us us
   finals = λ u. c_fin u ∙ old.finals u ∙ sym (final_same s e es u (ap is_of_no_step is));
   locks = λ u. c_lck u ∙ old.locks u ∙ sym (lock_same s e es u (λ w. live_same s e es w u (ap is_of_watch is)));
   queues = λ w. c_q w ∙ old.queues w ∙ sym (queue_same s e es w (legal_tail s e es l) (ap is_silent is));
-  used = λ u. c_us u ∙ old.used u ∙ sym (used_same e es u (ap is_create is));
+  used = λ u. c_us u ∙ old.used u ∙ sym (used_same e es u (ap is_of_uid is));
 }
 
 pub after_ack : {A : Type 0} (s : Settings) (e : Entry A) (es : List (Entry A)) (upto : ℕ) (cov cov' : List ℕ → Option (Cover A)) (how how' : List ℕ → List ℕ → Option Subscription)
@@ -265,7 +270,26 @@ after_ack {A} s e es upto cov cov' how how' fin fin' lck lck' q q' us us' old l 
   finals = λ u. c_fin u ∙ old.finals u ∙ sym (final_same s e es u (ap is_of_no_step is));
   locks = λ u. c_lck u ∙ old.locks u ∙ sym (lock_same s e es u (λ w. live_same s e es w u (ap is_of_watch is)));
   queues = λ w. c_q w ∙ ap (λ (k : Line). cond (bytes_eq e.ae w) (acked_to upto k) k) (old.queues w) ∙ sym (queue_ack s e es w upto l is);
-  used = λ u. c_us u ∙ old.used u ∙ sym (used_same e es u (ap is_create is));
+  used = λ u. c_us u ∙ old.used u ∙ sym (used_same e es u (ap is_of_uid is));
+}
+
+pub after_reserve : {A : Type 0} (s : Settings) (e : Entry A) (es : List (Entry A)) (step : List ℕ) (cov cov' : List ℕ → Option (Cover A)) (how how' : List ℕ → List ℕ → Option Subscription)
+    (fin fin' : List ℕ → Option ℕ) (lck lck' : List ℕ → Bool) (q q' : List ℕ → Line) (us us' : List ℕ → Bool)
+    → IsLive s es cov how fin lck q us → legal s (e ∷ es) ≡ true → e.request ≡ Reserve step
+    → ((w : List ℕ) → cov' w ≡ cov w)
+    → ((w u : List ℕ) → how' w u ≡ how w u)
+    → ((u : List ℕ) → fin' u ≡ fin u)
+    → ((u : List ℕ) → lck' u ≡ lck u)
+    → ((w : List ℕ) → q' w ≡ q w)
+    → ((u : List ℕ) → us' u ≡ (bytes_eq step u || us u))
+    → IsLive s (e ∷ es) cov' how' fin' lck' q' us'
+after_reserve {A} s e es step cov cov' how how' fin fin' lck lck' q q' us us' old l is c_cov c_how c_fin c_lck c_q c_us = record {
+  covers = λ w. c_cov w ∙ old.covers w ∙ sym (global_same s.peers e es w (ap is_of_cover is));
+  pairs = λ w u. c_how w u ∙ old.pairs w u ∙ sym (live_same s e es w u (ap is_of_watch is));
+  finals = λ u. c_fin u ∙ old.finals u ∙ sym (final_same s e es u (ap is_of_no_step is));
+  locks = λ u. c_lck u ∙ old.locks u ∙ sym (lock_same s e es u (λ w. live_same s e es w u (ap is_of_watch is)));
+  queues = λ w. c_q w ∙ old.queues w ∙ sym (queue_same s e es w (legal_tail s e es l) (ap is_silent is));
+  used = λ u. c_us u ∙ ap (λ b. bytes_eq step u || b) (old.used u) ∙ sym (used_reserve e es step u is);
 }
 
 -- a sweep: `due` are the steps that it removes, in whatever order
@@ -286,7 +310,7 @@ after_sweep {A} s e es due cov cov' how how' fin fin' lck lck' q q' us us' old l
   finals = λ u. c_fin u ∙ cond_both _ _ None (fin u) None (final s es u) (gone u) refl (old.finals u) ∙ sym (final_sweep s e es u is);
   locks = λ u. c_lck u ∙ cond_both _ _ false (lck u) false (locked s es u) (gone u) refl (old.locks u) ∙ sym (locks_sweep u);
   queues = λ w. c_q w ∙ old.queues w ∙ sym (queue_same s e es w (legal_tail s e es l) (ap is_silent is));
-  used = λ u. c_us u ∙ old.used u ∙ sym (used_same e es u (ap is_create is));
+  used = λ u. c_us u ∙ old.used u ∙ sym (used_same e es u (ap is_of_uid is));
 }
   where
     none_of : (u : List ℕ) (ps : List Peer) → is_among u (removed s es e.moment) ≡ true → list_any (λ (p : Peer). is_locked (live s (e ∷ es) p.ae u)) ps ≡ false

@@ -8,7 +8,7 @@ use Rattle.ups_dataset.specs.Data.{El}
 use Rattle.ups_life.specs.declared.entry.Entry.{Entry}
 use Rattle.ups_life.specs.declared.peer.Peer.{Peer}
 use Rattle.ups_life.specs.declared.request.Request.{Request}
-use Rattle.ups_life.specs.declared.request.Request.TheVariants.{Create, Change, AskCancel, Set, Subscribe, Unsubscribe, Suspend, Ack, Sweep}
+use Rattle.ups_life.specs.declared.request.Request.TheVariants.{Create, Change, AskCancel, Set, Subscribe, Unsubscribe, Suspend, Ack, Sweep, Reserve}
 use Rattle.ups_life.specs.declared.request.Transaction.{Transaction}
 use Rattle.ups_life.specs.declared.watching.Subscription.{Subscription}
 use Rattle.ups_watch.specs.declared.cover.Cover.{Cover}
@@ -53,6 +53,7 @@ cover_then {A} peers w set before (Unsubscribe Everywhere receiver) = sym (eithe
 cover_then {A} peers w set before (Suspend receiver) = sym (either (λ (c : Option (Cover A)). covered c set) (bytes_eq receiver w) None before)
 cover_then peers w set before (Ack upto) = refl
 cover_then peers w set before Sweep = refl
+cover_then peers w set before (Reserve step) = refl
 
 pub cover-global : {A : Type 0} (peers : List Peer) (es : List (Entry A)) (w : List ℕ) (set : List El) → cover peers es w set ≡ covered (global peers es w) set
 cover-global peers [] w set = refl
@@ -172,6 +173,7 @@ live_same {A} s e es w u none = at e.request none
     at (Suspend receiver) h = refl
     at (Ack upto) h = refl
     at Sweep h = absurd cc
+    at (Reserve step) h = refl
 
 -- LOCKS
 

@@ -5,7 +5,7 @@ use Rattle.std.specs.Str.{bytes_eq}
 use Rattle.ups_life.specs.declared.entry.Entry.{Entry}
 use Rattle.ups_life.specs.declared.peer.Peer.{Peer}
 use Rattle.ups_life.specs.declared.request.Request.{Request}
-use Rattle.ups_life.specs.declared.request.Request.TheVariants.{Create, Change, AskCancel, Set, Subscribe, Unsubscribe, Suspend, Ack, Sweep}
+use Rattle.ups_life.specs.declared.request.Request.TheVariants.{Create, Change, AskCancel, Set, Subscribe, Unsubscribe, Suspend, Ack, Sweep, Reserve}
 use Rattle.ups_cycle.specs.declared.status.Status.{Status}
 use Rattle.ups_life.specs.declared.watching.Subscription.{Subscription}
 use Rattle.ups_life.specs.Settings.{Settings}
@@ -69,6 +69,7 @@ no_global {A} s (e ∷ es) w out l = at e.request refl ∙ no_global s es w out 
     at (Set step t set) is = refl
     at (Ack upto) is = refl
     at Sweep is = refl
+    at (Reserve step) is = refl
 
 either : {X : Type 0} (b : Bool) (x y z : X) → x ≡ z → y ≡ z → cond b x y ≡ z
 either true x y z h k = h
@@ -94,6 +95,7 @@ no_watch {A} s (e ∷ es) w u out l = at e.request refl (no_watch s es w u out (
     at (Suspend receiver) is before = before
     at (Ack upto) is before = before
     at Sweep is before = before
+    at (Reserve step) is before = before
 
 pub no_live : {A : Type 0} (s : Settings) (es : List (Entry A)) (w u : List ℕ) → is_peer s.peers w ≡ false → legal s es ≡ true → live s es w u ≡ None
 no_live s es w u out l = either (is_held s es u) (watch s es w u) None None (no_watch s es w u out l) refl

@@ -8,7 +8,7 @@ use Rattle.ups_life.specs.declared.entry.Entry.{Entry}
 use Rattle.ups_life.specs.declared.event.Event.{Event}
 use Rattle.ups_life.specs.declared.event.Report.{Report}
 use Rattle.ups_life.specs.declared.request.Request.{Request}
-use Rattle.ups_life.specs.declared.request.Request.TheVariants.{Create, Change, AskCancel, Set, Subscribe, Unsubscribe, Suspend, Ack, Sweep}
+use Rattle.ups_life.specs.declared.request.Request.TheVariants.{Create, Change, AskCancel, Set, Subscribe, Unsubscribe, Suspend, Ack, Sweep, Reserve}
 use Rattle.ups_life.specs.declared.request.Transaction.{Transaction}
 use Rattle.ups_dataset.specs.Data.{El}
 use Rattle.ups_life.specs.declared.request.Reply.TheVariants.{Status as Answered, AckAhead, AckStale}
@@ -99,6 +99,7 @@ acked_same {A} e es w none = at e.request none
     at (Unsubscribe place receiver) h = refl
     at (Suspend receiver) h = refl
     at Sweep h = refl
+    at (Reserve step) h = refl
 
 -- A REQUEST ON A STEP: whoever watches it afterwards is told the news of it
 
@@ -123,6 +124,7 @@ reports_on {A} s e es w u on other d = at e.request refl on other d
     stays (AskCancel step reasons) h = refl
     stays (Suspend receiver) h = refl
     stays (Ack upto) h = refl
+    stays (Reserve step) h = refl
     stays r h = absurd cc
 
     -- of a step that is there already
@@ -221,10 +223,12 @@ queue_same {A} s e es w l silent = queue_told s e es w [] l (acked_same e es w (
     at (Unsubscribe place receiver) h = refl
     at (Suspend receiver) h = refl
     at Sweep h = refl
+    at (Reserve step) h = refl
     at r h = absurd cc
 
     none : (r : Request A) → is_silent r ≡ true → reports_of s es e w r ≡ []
     none (Unsubscribe place receiver) h = refl
     none (Suspend receiver) h = refl
     none Sweep h = refl
+    none (Reserve step) h = refl
     none r h = absurd cc

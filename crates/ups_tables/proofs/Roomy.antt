@@ -19,7 +19,7 @@ use Rattle.ups_watch.specs.Rows.{Cells}
 use Rattle.ups_watch.specs.Table.{is_locked_by_any}
 use Rattle.ups_tables.specs.declared.tables.Tables.{Tables}
 use Rattle.ups_tables.specs.declared.plan.Plan.{Plan}
-use Rattle.ups_tables.specs.declared.plan.Plan.TheVariants.{Create as ToCreate, Change as ToChange, Set as ToSet, Single as ToSingle, Global as ToGlobal, End as ToEnd, EndAll as ToEndAll, Suspend as ToSuspend, Ack as ToAck, Sweep as ToSweep, Idle as ToIdle}
+use Rattle.ups_tables.specs.declared.plan.Plan.TheVariants.{Create as ToCreate, Change as ToChange, Set as ToSet, Single as ToSingle, Global as ToGlobal, End as ToEnd, EndAll as ToEndAll, Suspend as ToSuspend, Ack as ToAck, Sweep as ToSweep, Reserve as ToReserve, Idle as ToIdle}
 use Rattle.ups_tables.specs.Held.{held_at, final_of, is_used}
 use Rattle.ups_tables.specs.Effects.{Reserved, RoomFor}
 use Rattle.std.specs.HashSet as sets
@@ -96,6 +96,7 @@ module _ {A : Type 0} (t t' : Tables A) (r : Reserved t t') where
     allowed = ap (λ (q : Line). ack_fault (record { made = q.made; acked = q.acked; events = q.events; spare = 0 }) upto) (line_same peer) ∙ p.allowed;
   }
   plan_reserved s es e (ToSweep due moment) p = record { request = p.request; since = p.since; due_are = p.due_are ∙ ap (due_until moment) (sym r.due) }
+  plan_reserved s es e (ToReserve step) p = p
   plan_reserved s es e ToIdle p = record { request = p.request; none = λ n le. ap (due_until n) r.due ∙ p.none n le }
 
 -- what is so anyhow is so where a result is right

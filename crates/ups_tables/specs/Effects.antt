@@ -74,6 +74,14 @@ pub record AcknowledgesUpto {A : Type 0} (peer upto : ℕ) (t t' : Tables A) : T
   pub hows : (p : ℕ) (u : List ℕ) → how t' p u ≡ how t p u
   pub queues : (p : ℕ) → queue_line t' p ≡ (if nat_eq peer p then acked_to upto (queue_line t p) else queue_line t p)
 
+-- a UID is reserved: it is used from then on (PS3.4 CC.2.5)
+pub record ReservesUid {A : Type 0} (step : List ℕ) (t t' : Tables A) : Type 0 where
+  pub steps : t'.steps.entries ≡ t.steps.entries
+  pub used : (u : List ℕ) → uses t' u ≡ (bytes_eq step u || uses t u)
+  pub covers : t'.watchers.covers ≡ t.watchers.covers
+  pub hows : (p : ℕ) (u : List ℕ) → how t' p u ≡ how t p u
+  pub queues : (p : ℕ) → queue_line t' p ≡ queue_line t p
+
 -- steps are removed, with all subscriptions to them (defined by the profile, with PS3.4 CC.2.3)
 pub record IsSwept {A : Type 0} (due : List (List ℕ)) (t t' : Tables A) : Type 0 where
   pub steps : t'.steps.entries ≡ filter (λ (e : List ℕ × HeldRow A). not (is_among e.0 due)) t.steps.entries

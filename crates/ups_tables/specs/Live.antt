@@ -11,7 +11,7 @@ use Rattle.ups_life.specs.declared.event.EventKind.TheVariants.{StateReport}
 use Rattle.ups_life.specs.declared.event.Report.{Report}
 use Rattle.ups_life.specs.declared.peer.Peer.{Peer}
 use Rattle.ups_life.specs.declared.request.Request.{Request}
-use Rattle.ups_life.specs.declared.request.Request.TheVariants.{Create, Change, AskCancel, Set, Subscribe, Unsubscribe, Suspend, Ack, Sweep}
+use Rattle.ups_life.specs.declared.request.Request.TheVariants.{Create, Change, AskCancel, Set, Subscribe, Unsubscribe, Suspend, Ack, Sweep, Reserve}
 use Rattle.ups_life.specs.declared.row.Row.{Row}
 use Rattle.ups_life.specs.declared.watching.Place.{Place}
 use Rattle.ups_life.specs.declared.watching.Place.TheVariants.{At, Everywhere}
@@ -121,12 +121,13 @@ pub record IsLive {A : Type 0} (s : Settings) (es : List (Entry A)) (cover_of : 
 
 -- KINDS OF REQUESTS
 
--- the request is a watcher's: neither on a step nor a sweep
+-- the request is neither on a step nor a sweep: it is a watcher's, or reserves a UID
 abbrev pub is_of_no_step : {A : Type 0} → Request A → Bool
 is_of_no_step (Subscribe target receiver lock) = true
 is_of_no_step (Unsubscribe place receiver) = true
 is_of_no_step (Suspend receiver) = true
 is_of_no_step (Ack upto) = true
+is_of_no_step (Reserve step) = true
 is_of_no_step r = false
 
 -- the request may change a global subscription
@@ -140,6 +141,12 @@ is_of_cover r = false
 abbrev pub is_create : {A : Type 0} → Request A → Bool
 is_create (Create step set) = true
 is_create r = false
+
+-- the request uses a UID: it creates a step with it, or reserves it
+abbrev pub is_of_uid : {A : Type 0} → Request A → Bool
+is_of_uid (Create step set) = true
+is_of_uid (Reserve step) = true
+is_of_uid r = false
 
 -- the request sets attributes of a step
 abbrev pub is_set : {A : Type 0} → Request A → Bool
@@ -165,4 +172,5 @@ abbrev pub is_silent : {A : Type 0} → Request A → Bool
 is_silent (Unsubscribe place receiver) = true
 is_silent (Suspend receiver) = true
 is_silent Sweep = true
+is_silent (Reserve step) = true
 is_silent r = false

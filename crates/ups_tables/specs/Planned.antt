@@ -6,7 +6,7 @@ use Rattle.ups_dataset.specs.Data.{El}
 use Rattle.ups_life.specs.declared.entry.Entry.{Entry}
 use Rattle.ups_life.specs.declared.event.Report.{Report}
 use Rattle.ups_life.specs.declared.request.Transaction.{Transaction}
-use Rattle.ups_life.specs.declared.request.Request.TheVariants.{Create, Set, Subscribe, Unsubscribe, Suspend, Ack, Sweep}
+use Rattle.ups_life.specs.declared.request.Request.TheVariants.{Create, Set, Subscribe, Unsubscribe, Suspend, Ack, Sweep, Reserve}
 use Rattle.ups_life.specs.declared.watching.Place.TheVariants.{At, Everywhere}
 use Rattle.ups_life.specs.declared.watching.Subscription.{Subscription}
 use Rattle.ups_life.specs.declared.watching.Target.{Target}
@@ -24,7 +24,7 @@ use Rattle.ups_watch.specs.declared.cover.Cover.{Cover}
 use Rattle.ups_steps.specs.declared.held.HeldRow.{HeldRow}
 use Rattle.ups_tables.specs.declared.tables.Tables.{Tables}
 use Rattle.ups_tables.specs.declared.plan.Plan.{Plan}
-use Rattle.ups_tables.specs.declared.plan.Plan.TheVariants.{Create as ToCreate, Change as ToChange, Set as ToSet, Single as ToSingle, Global as ToGlobal, End as ToEnd, EndAll as ToEndAll, Suspend as ToSuspend, Ack as ToAck, Sweep as ToSweep, Idle as ToIdle}
+use Rattle.ups_tables.specs.declared.plan.Plan.TheVariants.{Create as ToCreate, Change as ToChange, Set as ToSet, Single as ToSingle, Global as ToGlobal, End as ToEnd, EndAll as ToEndAll, Suspend as ToSuspend, Ack as ToAck, Sweep as ToSweep, Reserve as ToReserve, Idle as ToIdle}
 use Rattle.ups_tables.specs.Effects.{RoomFor}
 use Rattle.ups_tables.specs.Fit.{how, AreFreed}
 use Rattle.ups_tables.specs.Keyed.{step_with_held}
@@ -114,6 +114,10 @@ pub record PlansAck {A : Type 0} (s : Settings) (e : Entry A) (t : Tables A) (pe
   pub request : e.request ≡ Ack upto
   pub allowed : ack_fault (queue_at t.queues peer) upto ≡ None
 
+-- a UID is to be reserved (PS3.4 CC.2.5)
+pub record PlansReserve {A : Type 0} (e : Entry A) (step : List ℕ) : Type 0 where
+  pub request : e.request ≡ Reserve step
+
 -- a sweep is to remove the steps that have waited at least as long as final steps are kept
 pub record PlansSweep {A : Type 0} (s : Settings) (e : Entry A) (t : Tables A) (due : List Final) (moment : ℕ) : Type 0 where
   pub request : e.request ≡ Sweep
@@ -137,6 +141,7 @@ IsPlan s es e t (ToEndAll peer freed) = PlansEndAll s e t peer freed.items
 IsPlan s es e t (ToSuspend peer) = PlansSuspend s e peer
 IsPlan s es e t (ToAck peer upto) = PlansAck s e t peer upto
 IsPlan s es e t (ToSweep due moment) = PlansSweep s e t due.items moment
+IsPlan s es e t (ToReserve step) = PlansReserve e step
 IsPlan s es e t ToIdle = PlansIdle s e t
 
 -- WHICH STEPS ARE REMOVED, and how many
@@ -180,4 +185,5 @@ room_for t (ToEndAll peer freed) = length freed.items ≤ t.due.spare
 room_for t (ToSuspend peer) = Unit {0}
 room_for t (ToAck peer upto) = Unit {0}
 room_for t (ToSweep due moment) = Unit {0}
+room_for t (ToReserve step) = 0 < sets.spare t.used
 room_for t ToIdle = Unit {0}

@@ -10,7 +10,7 @@ ghost use Rattle.ups_keep.specs.Waits.{steps_of};
 ghost use Rattle.ups_events.specs.Queue.{ack_fault, queue_at};
 ghost use Rattle.ups_tables.specs.Held.{held_at};
 ghost use Rattle.ups_tables.specs.Fit.{how, holds, TablesFit, AreFreed};
-ghost use Rattle.ups_tables.specs.Effects.{IsCreated, IsChanged, IsSubscribed, IsUnsubscribed, IsSuspended, AcknowledgesUpto, IsSwept, RoomFor};
+ghost use Rattle.ups_tables.specs.Effects.{IsCreated, IsChanged, IsSubscribed, IsUnsubscribed, IsSuspended, AcknowledgesUpto, IsSwept, ReservesUid, RoomFor};
 
 use crate::settling::{forget, settle, settle_many, waiting_in};
 use crate::tables::Tables;
@@ -213,6 +213,16 @@ pub(crate) fn acknowledge_upto<A: Allocator + Copy>(tables: &mut Tables<A>, peer
         unreachable!();
     };
     tables.watchers.learn();
+}
+
+/// Reserves a UID: it is used from then on (PS3.4 CC.2.5).
+pub(crate) fn reserve_uid<A: Allocator + Copy>(tables: &mut Tables<A>, uid: StepUid)
+    requires fits { TablesFit tables.old }
+    requires room_used { 0 < set.spare tables.old.used }
+    ensures effect { ReservesUid uid tables.old tables.new }
+    ensures fits { TablesFit tables.new }
+{
+    use_uid(&mut tables.used, uid);
 }
 
 /// Removes the steps that became final no later than a moment and that no peer has a deletion lock on, with all

@@ -8,8 +8,8 @@ ghost use Rattle.ups_tables.specs.Planned.{IsPlan, room_for};
 ghost use Rattle.ups_tables.specs.Stands.{Stands};
 
 use crate::acting::{
-    acknowledge_upto, change, change_alone, create, end_everywhere, end_single, subscribe_all,
-    subscribe_single, suspend, sweep,
+    acknowledge_upto, change, change_alone, create, end_everywhere, end_single, reserve_uid,
+    subscribe_all, subscribe_single, suspend, sweep,
 };
 use crate::plan::Plan;
 use crate::tables::Tables;
@@ -90,6 +90,7 @@ pub fn carry_out<A: Allocator + Copy>(
             let swept = due.as_slice();
             sweep(tables, swept, moment);
         }
+        Plan::Reserve { step } => reserve_uid(tables, step),
         Plan::Idle => {}
     }
 }

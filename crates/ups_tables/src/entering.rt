@@ -76,6 +76,7 @@ pub(crate) fn room_for_plan<A: Allocator + Copy>(
         Plan::Suspend { .. } => Ok(()),
         Plan::Ack { .. } => Ok(()),
         Plan::Sweep { .. } => Ok(()),
+        Plan::Reserve { .. } => tables.used.reserve(1),
         Plan::Idle => Ok(()),
     }
 }

@@ -74,6 +74,10 @@ pub enum Plan<A: Allocator + Copy> {
         due: Vec<Final, A>,
         moment: u64,
     },
+    /// The reservation of a UID, which is used from then on (PS3.4 CC.2.5).
+    Reserve {
+        step: StepUid,
+    },
     /// No effect: a sweep when no step has awaited removal long enough.
     Idle,
 }

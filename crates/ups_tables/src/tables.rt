@@ -17,7 +17,7 @@ use ups_watch::Watchers;
 pub struct Tables<A: Allocator + Copy> {
     /// The held steps, in order of creation, keyed by UID.
     pub steps: Steps<A>,
-    /// The UIDs of all steps ever created: none is used again (PS3.4 CC.2.5).
+    /// The UIDs of all steps ever created, and those reserved: none is used again (PS3.4 CC.2.5).
     pub used: HashSet<StepUid, BuildHasherDefault<FoldHasher>, A>,
     /// The global subscription of each peer, and the subscription of each peer to each held step (PS3.4 CC.2.3).
     pub watchers: Watchers<A>,

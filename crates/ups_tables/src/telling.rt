@@ -91,6 +91,7 @@ pub(crate) fn news<A: Allocator + Copy>(
         | Request::Unsubscribe { .. }
         | Request::Suspend { .. }
         | Request::Ack { .. }
-        | Request::Sweep => Ok(Vec::new(alloc)),
+        | Request::Sweep
+        | Request::Reserve { .. } => Ok(Vec::new(alloc)),
     }
 }

@@ -28,13 +28,13 @@ use std::thread::Threads;
 use std::time::Clock;
 use ups_args::{PipeArguments, command, pipe_arguments, script_arguments};
 use ups_log::{LineStyle, LossyLog};
-use ups_net::Network;
 pub use ups_net::{ServerOptions, work};
 use ups_peers::TURNS;
 use ups_pipe::{Piped, pipe_told};
 pub use ups_server::{RanServer, answer_network, check_words, serve_words};
 pub use ups_session::{End, SessionFault};
 use ups_session::{WatchedReader, WatchedWriter};
+use ups_transport::Network;
 
 /// Answers one association from standard input to standard output, prints its fault, and returns how the program ends.
 ///

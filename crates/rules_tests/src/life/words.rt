@@ -1,11 +1,11 @@
 //! The words of the rows of the tests: what is asked for, and what is held.
 
-use fixtures::Refusing;
 use fixtures::words::{message_of, set_of};
+use fixtures::{Refusing, uid};
 use std::alloc::{Allocator, Global};
 use std::test::Fail;
 use ups_cycle::{Status, StepState};
-use ups_life::{Ask, Request, Row, read_request};
+use ups_life::{Ask, Request, Row, StepUid, read_request};
 use ups_pdu::Uid;
 
 /// The offset of the local time, in minutes, in which keys are read.
@@ -31,12 +31,21 @@ fn request_in<A: Allocator + Copy>(ask: Ask<A>) -> Result<Request<A>, Fail> {
     }
 }
 
-/// Returns the request that a message asks for.
+/// Returns the reservation of a UID.
+fn reservation_of<A: Allocator + Copy>(name: &str) -> Result<Request<A>, Fail> {
+    let step = StepUid::of(uid(name)?).ok_or("the UID of a step")?;
+    Ok(Request::Reserve { step })
+}
+
+/// Returns the request of these words: what a message asks for, or the reservation of a UID.
 pub(super) fn request_of<'a>(
     heap: &'a Refusing<Global>,
-    message: &str,
+    words: &str,
 ) -> Result<Request<&'a Refusing<Global>>, Fail> {
-    match read(heap, message, 0)? {
+    if let Some(name) = words.strip_prefix("reserve ") {
+        return reservation_of(name);
+    }
+    match read(heap, words, 0)? {
         Ok(ask) => request_in(ask),
         Err(_) => Err("a status".into()),
     }

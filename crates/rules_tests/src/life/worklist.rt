@@ -28,7 +28,8 @@ const FOUND: &str = r"00080018= 00741202=RE?D* -> [00080018=1.2.3.1_ 00741202=RE
 const CREATED: &str = "\
 create 1.2.3.1
 create 1.2.3.22
-set 1.2.3.2 00741204=MR_READ";
+set 1.2.3.2 00741204=MR_READ
+reserve 1.2.3.4";
 
 /// Requests, whether their step is then used, and whether they create a step that is.
 const USED: &str = "\
@@ -36,6 +37,9 @@ create 1.2.3.1 -> true true
 2 1.2.3.1 -> true false
 create 1.2.3.22 -> true true
 2 1.2.3.22 -> true false
+create 1.2.3.4 -> true true
+2 1.2.3.4 -> true false
+create 1.2.3.44 -> false false
 create 1.2.3.2 -> false false
 2 1.2.3.2 -> false false
 create 1.2.3 -> false false
@@ -225,7 +229,7 @@ fn check_used<'a>(
 }
 
 #[test]
-fn only_the_uids_of_created_steps_are_used(rt: HostRuntime) -> Result<(), Fail> {
+fn only_reserved_uids_and_those_of_created_steps_are_used(rt: HostRuntime) -> Result<(), Fail> {
     let heap = Refusing::new(rt.alloc());
     let entries = entries_of(&heap, CREATED)?;
     laws::a_row_tells_its_state(entries.as_slice());

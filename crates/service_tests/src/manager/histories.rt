@@ -5,11 +5,11 @@ use super::plain::{Dice, KEYS, found_by_both, settings_of};
 use super::twin::{compare_replies, compare_twin, let_go_by_chance, set_aside};
 use super::words::{FILTERING, LASTING, WORDS};
 use fixtures::rows::{check, cut, number};
-use fixtures::title;
 use fixtures::words::message_of;
+use fixtures::{title, uid};
 use std::alloc::{Allocator, Global};
 use std::test::Fail;
-use ups_cycle::StepState;
+use ups_cycle::{Status, StepState};
 use ups_life::{
     Ask, Entry, Event, EventKind, EventReport, MAX_MOMENT, Peer, Place, Reply, Request, StepUid,
     Target, Watched, read_request,
@@ -22,7 +22,7 @@ use ups_plain::{acked, plain_events, plain_held, plain_watches};
 const OFFSET: i16 = 60;
 
 /// The number of counts: accepted requests, by their kinds, and then what is compared.
-const COUNTED: usize = 21;
+const COUNTED: usize = 22;
 
 /// How histories are made, and the least value of each count, one a line.
 struct Kind {
@@ -34,7 +34,7 @@ struct Kind {
     least: &'static str,
 }
 
-/// Histories of all requests. The least is half of what is expected, or less.
+/// Histories of all requests. The least is half of what is expected, or less; each history has one reservation.
 ///
 /// In 200 histories of 100 calls each line of the calls comes up 1,000 times. A request for a watcher is accepted for
 /// three of the four receivers. One call in 75 creates a given step, so 4.4 of the six are created in a history (887 in
@@ -64,6 +64,7 @@ const ANY: Kind = Kind {
 375 suspensions
 30 acknowledgements
 40 sweeps
+200 reservations
 200 steps held
 50 steps found
 180 steps watched
@@ -73,7 +74,7 @@ const ANY: Kind = Kind {
 3 reports of requests set aside",
 };
 
-/// Histories about filters. The least is half of what is expected, or less.
+/// Histories about filters. The least is half of what is expected, or less; each history has one reservation.
 ///
 /// In 200 histories of 40 calls each line of the calls comes up 364 times. One call in 16 creates a given step, so it
 /// is there for two calls in three, and one in 66 claims it. Half of the sets have the right UID for their step. Of
@@ -101,6 +102,7 @@ const FILTERED: Kind = Kind {
 180 suspensions
 10 acknowledgements
 0 sweeps
+200 reservations
 300 steps held
 50 steps found
 150 steps watched
@@ -110,7 +112,7 @@ const FILTERED: Kind = Kind {
 0 reports of requests set aside",
 };
 
-/// Long histories. The least is half of what is expected, or less.
+/// Long histories. The least is half of what is expected, or less; each history has one reservation.
 ///
 /// In 40 histories of 250 calls each line of the calls comes up 345 times. One call in 145 creates a given step, so 16.4
 /// of the 20 are created in a history, and a call finds its step held every second time. The UID is that of the claim
@@ -137,6 +139,7 @@ const LONG: Kind = Kind {
 160 suspensions
 120 acknowledgements
 40 sweeps
+40 reservations
 0 steps held
 0 steps found
 0 steps watched
@@ -155,8 +158,8 @@ struct Word<'a> {
 
 /// Words, and the dice that choose what each stands for.
 #[derive(Drop)]
-struct Chance<'a> {
-    dice: Dice,
+pub(super) struct Chance<'a> {
+    pub(super) dice: Dice,
     words: Vec<Word<'a>>,
 }
 
@@ -222,6 +225,10 @@ pub(super) fn request_of<A: Allocator + Copy>(alloc: A, text: &str) -> Result<Re
     if text == "sweep" {
         return Ok(Request::Sweep);
     }
+    if let Some(name) = text.strip_prefix("reserve ") {
+        let step = StepUid::of(uid(name)?).ok_or("the UID of a step")?;
+        return Ok(Request::Reserve { step });
+    }
     if let Some(number) = text.strip_prefix("ack ") {
         let upto = number.parse::<u64>()?;
         return Ok(Request::Ack { upto });
@@ -245,25 +252,25 @@ fn any_title(chance: &mut Chance) -> Result<Ae, Fail> {
 
 /// A call: who asks what, and when.
 #[derive(Drop)]
-struct Call {
-    ae: Ae,
-    moment: u64,
-    text: String,
+pub(super) struct RandomCall {
+    pub(super) ae: Ae,
+    pub(super) moment: u64,
+    pub(super) text: String,
 }
 
 /// Returns a random call.
-fn any_call(rt: &impl AllocGlobal, chance: &mut Chance) -> Result<Call, Fail> {
+pub(super) fn any_call(rt: &impl AllocGlobal, chance: &mut Chance) -> Result<RandomCall, Fail> {
     let moment = any_moment(chance)?;
     let ae = any_title(chance)?;
     let text = chance.any_text(rt)?;
-    Ok(Call { ae, moment, text })
+    Ok(RandomCall { ae, moment, text })
 }
 
 /// Makes a call, and returns the reply.
-fn reply_to(
+pub(super) fn reply_to(
     rt: &impl AllocGlobal,
     manager: &mut Manager<Global>,
-    call: &Call,
+    call: &RandomCall,
 ) -> Result<Reply<Global>, Fail> {
     if call.moment > MAX_MOMENT {
         return Err("no moment".into());
@@ -324,6 +331,7 @@ fn kind_of(request: &Request<Global>) -> usize {
         Request::Suspend { .. } => 11,
         Request::Ack { .. } => 12,
         Request::Sweep => 13,
+        Request::Reserve { .. } => 14,
     }
 }
 
@@ -488,7 +496,7 @@ fn compare_watchers(
     manager: &Manager<Global>,
 ) -> Result<(), Fail> {
     for name in ["W1", "W2", "W3"] {
-        add(counts, 16, watched_by_both(rt, manager, title(name)?)?);
+        add(counts, 17, watched_by_both(rt, manager, title(name)?)?);
     }
     Ok(())
 }
@@ -501,21 +509,21 @@ fn compare_all(
     manager: &Manager<Global>,
     before: usize,
 ) -> Result<(), Fail> {
-    add(counts, 14, held_by_both(rt, manager)?);
+    add(counts, 15, held_by_both(rt, manager)?);
     add(
         counts,
-        15,
+        16,
         found_by_both(rt, manager, chance.dice.one_of(KEYS)?)?,
     );
     compare_watchers(rt, counts, manager)?;
     let ae = any_title(chance)?;
-    add(counts, 17, pending_by_both(rt, manager, ae)?);
-    add(counts, 18, begun_by_a_set(manager, before)?);
+    add(counts, 18, pending_by_both(rt, manager, ae)?);
+    add(counts, 19, begun_by_a_set(manager, before)?);
     Ok(())
 }
 
 /// Makes a random call to a manager and its twin. If it is entered, the twin may let go of requests, and the answers are
-/// compared after each tenth entry.
+/// compared after each tenth entry behind the reservation.
 fn compare_call(
     rt: &impl AllocGlobal,
     kind: &Kind,
@@ -524,23 +532,65 @@ fn compare_call(
     manager: &mut Manager<Global>,
     twin: &mut Manager<Global>,
 ) -> Result<(), Fail> {
-    let is_tenth = manager.entries() % 10 == 9;
+    let is_tenth = manager.entries() % 10 == 0;
     let before = if is_tenth { subscriptions(manager)? } else { 0 };
     if !is_entered(rt, chance, manager, twin)? {
         return Ok(());
     }
     let is_less = let_go_by_chance(&mut chance.dice, twin);
-    add(counts, 19, usize::from(is_less));
+    add(counts, 20, usize::from(is_less));
     if is_tenth && kind.is_plain {
         compare_all(rt, chance, counts, manager, before)?;
     }
     if is_tenth && set_aside(twin) > 0 {
-        add(counts, 20, compare_twin(rt, manager, twin)?);
+        add(counts, 21, compare_twin(rt, manager, twin)?);
     }
     Ok(())
 }
 
-/// Makes a history, and counts what is compared.
+/// Makes a call at the beginning of 1970 to a manager and its twin, and returns the reply, which is that of both.
+fn reply_of_both(
+    rt: &impl AllocGlobal,
+    manager: &mut Manager<Global>,
+    twin: &mut Manager<Global>,
+    text: &str,
+) -> Result<Reply<Global>, Fail> {
+    let call = RandomCall {
+        ae: title("P1")?,
+        moment: 0,
+        text: format!(in rt.alloc(); "{text}")?,
+    };
+    let reply = reply_to(rt, manager, &call)?;
+    let other = reply_to(rt, twin, &call)?;
+    compare_replies(manager, twin, &reply, &other)?;
+    Ok(reply)
+}
+
+/// Reserves a UID that no other call has.
+fn reserve(
+    rt: &impl AllocGlobal,
+    manager: &mut Manager<Global>,
+    twin: &mut Manager<Global>,
+) -> Result<(), Fail> {
+    match reply_of_both(rt, manager, twin, "reserve 1.2.3.0")? {
+        Reply::Status(Status::Success) => Ok(()),
+        _ => Err("a UID is not reserved".into()),
+    }
+}
+
+/// Fails if a step is created under the reserved UID.
+fn check_reserved(
+    rt: &impl AllocGlobal,
+    manager: &mut Manager<Global>,
+    twin: &mut Manager<Global>,
+) -> Result<(), Fail> {
+    match reply_of_both(rt, manager, twin, "create 1.2.3.0 B 00741202=READS")? {
+        Reply::Status(Status::DuplicateSopInstance) => Ok(()),
+        _ => Err("a step is created under a reserved UID".into()),
+    }
+}
+
+/// Makes a history, which begins with the reservation of a UID, and counts what is compared.
 fn compare_history(
     rt: &impl AllocGlobal,
     kind: &Kind,
@@ -549,9 +599,11 @@ fn compare_history(
     manager: &mut Manager<Global>,
     twin: &mut Manager<Global>,
 ) -> Result<(), Fail> {
+    reserve(rt, manager, twin)?;
     for _ in 0..kind.calls {
         compare_call(rt, kind, chance, counts, manager, twin)?;
     }
+    check_reserved(rt, manager, twin)?;
     count_entries(counts, manager.history());
     Ok(())
 }
@@ -620,12 +672,21 @@ fn counts_by(
     Ok(counts)
 }
 
+/// Returns the words of a text, and dice that start in a given state.
+pub(super) fn chance_from<'a>(
+    rt: &impl AllocGlobal,
+    text: &'a str,
+    state: u64,
+) -> Result<Chance<'a>, Fail> {
+    Ok(Chance {
+        dice: Dice { state },
+        words: words_of(rt, text)?,
+    })
+}
+
 /// The same with dice that start in a given state.
 fn counts_from(rt: &impl AllocGlobal, kind: &Kind, state: u64) -> Result<[u64; COUNTED], Fail> {
-    let mut chance = Chance {
-        dice: Dice { state },
-        words: words_of(rt, kind.words)?,
-    };
+    let mut chance = chance_from(rt, kind.words, state)?;
     counts_by(rt, kind, &mut chance)
 }
 

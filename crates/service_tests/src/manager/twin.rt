@@ -10,7 +10,7 @@ use ups_manager::*;
 use ups_pdu::Ae;
 
 /// Returns whether two replies to requests are the same.
-fn are_same_replies(one: &Reply<Global>, other: &Reply<Global>) -> bool {
+pub(super) fn are_same_replies(one: &Reply<Global>, other: &Reply<Global>) -> bool {
     match (one, other) {
         (Reply::Status(one), Reply::Status(other)) => one == other,
         (Reply::Swept(one), Reply::Swept(other)) => one == other,
@@ -90,7 +90,7 @@ fn compare_step(
 }
 
 /// Fails if both do not hold the same steps, in the same order, or one of them differs.
-fn compare_steps(
+pub(super) fn compare_steps(
     rt: &impl AllocGlobal,
     manager: &Manager<Global>,
     twin: &Manager<Global>,
@@ -106,7 +106,7 @@ fn compare_steps(
 }
 
 /// Returns the pending reports of a peer, of which there must be as many as wait.
-fn reports(manager: &Manager<Global>, ae: Ae) -> Result<EventReports<Global>, Fail> {
+pub(super) fn reports(manager: &Manager<Global>, ae: Ae) -> Result<EventReports<Global>, Fail> {
     let Reply::Reports(reports) = manager.pending(ae, 1_000_000) else {
         return Err("a status alone".into());
     };

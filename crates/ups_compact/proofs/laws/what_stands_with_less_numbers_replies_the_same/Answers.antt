@@ -5,7 +5,7 @@ use Rattle.ups_compact.proofs.laws.what_stands_with_less_numbers_replies_the_sam
 pub returns : goal.returns
 returns g c = record {
   decided = decided_shifted;
-  reply = λ s by log e x new room. reply_shifted s by log e x room new;
+  reply = reply_shifted;
   got = λ s by log step tags x. got_same s by log x.says step tags;
   found = λ s by log keys x. worklist_same s by log x.says keys;
 }

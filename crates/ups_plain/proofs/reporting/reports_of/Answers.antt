@@ -4,7 +4,7 @@ use Rattle.ups_dataset.specs.declared.set.DataSet.{DataSet}
 use Rattle.ups_life.specs.declared.entry.Entry.{Entry}
 use Rattle.ups_life.specs.declared.event.Report.{Report}
 use Rattle.ups_life.specs.declared.request.Request.{Request}
-use Rattle.ups_life.specs.declared.request.Request.TheVariants.{Create, Change, AskCancel, Set, Subscribe, Unsubscribe, Suspend, Ack, Sweep}
+use Rattle.ups_life.specs.declared.request.Request.TheVariants.{Create, Change, AskCancel, Set, Subscribe, Unsubscribe, Suspend, Ack, Sweep, Reserve}
 use Rattle.ups_life.specs.declared.step.StepUid.{StepUid}
 use Rattle.ups_pdu.specs.declared.ae.Ae.{Ae}
 use Rattle.std.specs.Prelude.{Bool}
@@ -46,6 +46,7 @@ of_its_step s es e w (Unsubscribe place receiver) a b = refl
 of_its_step s es e w (Suspend receiver) a b = refl
 of_its_step s es e w (Ack upto) a b = refl
 of_its_step s es e w Sweep a b = refl
+of_its_step s es e w (Reserve step) a b = refl
 
 pub returns-in_default : goal.returns-in_default
 returns-in_default g c =

@@ -3,7 +3,7 @@ use Rattle.std.proofs.lemmas.Result.{err_from_is_err_and}
 use Rattle.ups_dataset.specs.declared.set.DataSet.{DataSet}
 use Rattle.ups_life.specs.declared.entry.Entry.{Entry}
 use Rattle.ups_life.specs.declared.request.Request.{Request}
-use Rattle.ups_life.specs.declared.request.Request.TheVariants.{Create, Change, AskCancel, Set, Subscribe, Unsubscribe, Suspend, Ack, Sweep}
+use Rattle.ups_life.specs.declared.request.Request.TheVariants.{Create, Change, AskCancel, Set, Subscribe, Unsubscribe, Suspend, Ack, Sweep, Reserve}
 use Rattle.ups_life.specs.declared.request.Transaction.{Transaction}
 use Rattle.ups_cycle.specs.declared.state.StepState.{StepState}
 use Rattle.ups_life.specs.declared.step.StepUid.{StepUid}
@@ -27,6 +27,7 @@ none s es e u (Unsubscribe place receiver) a b c = refl
 none s es e u (Suspend receiver) a b c = refl
 none s es e u (Ack upto) a b c = refl
 none s es e u Sweep a b c = refl
+none s es e u (Reserve step) a b c = refl
 
 pub returns-in_default : goal.returns-in_default
 returns-in_default g c =

@@ -2,7 +2,7 @@ use Rattle.std.proofs.Common.{◌≡◌, ℕ, List, refl}
 use Rattle.ups_dataset.specs.declared.set.DataSet.{DataSet}
 use Rattle.ups_life.specs.declared.entry.Entry.{Entry}
 use Rattle.ups_life.specs.declared.request.Request.{Request}
-use Rattle.ups_life.specs.declared.request.Request.TheVariants.{Create, Change, AskCancel, Set, Subscribe, Unsubscribe, Suspend, Ack, Sweep}
+use Rattle.ups_life.specs.declared.request.Request.TheVariants.{Create, Change, AskCancel, Set, Subscribe, Unsubscribe, Suspend, Ack, Sweep, Reserve}
 use Rattle.ups_life.specs.declared.step.StepUid.{StepUid}
 use Rattle.ups_life.specs.Settings.{Settings}
 use Rattle.ups_life.specs.Steps.{past}
@@ -21,6 +21,7 @@ same s es moment steps (Unsubscribe place receiver) no_create no_sweep = refl
 same s es moment steps (Suspend receiver) no_create no_sweep = refl
 same s es moment steps (Ack upto) no_create no_sweep = refl
 same s es moment steps Sweep no_create no_sweep = absurd (no_sweep refl)
+same s es moment steps (Reserve step) no_create no_sweep = refl
 
 pub returns-in-Sweep : goal.returns-in-Sweep
 returns-in-Sweep g c = rw c.in-Sweep.is (rw c.as_slice.ensures.value at c.left.ensures)

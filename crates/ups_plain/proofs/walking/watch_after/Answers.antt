@@ -135,3 +135,9 @@ returns-in-Change-5-clause-row g c = c.requires.row
 
 pub returns-in-Change-5-clause-earlier : goal.returns-in-Change-5-clause-earlier
 returns-in-Change-5-clause-earlier g c = later c.args.walk.now.count c.args.place c.requires.earlier
+
+pub returns-in-Change-6-clause-row : goal.returns-in-Change-6-clause-row
+returns-in-Change-6-clause-row g c = c.requires.row
+
+pub returns-in-Change-6-clause-earlier : goal.returns-in-Change-6-clause-earlier
+returns-in-Change-6-clause-earlier g c = later c.args.walk.now.count c.args.place c.requires.earlier

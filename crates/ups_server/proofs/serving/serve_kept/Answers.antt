@@ -6,7 +6,7 @@ use Rattle.ups_manager.specs.View.{shared_state}
 use Rattle.ups_manager.proofs.Crosses.{manager_send}
 use Rattle.ups_ledger.specs.Keeping.{KeepersGoOn}
 use Rattle.ups_net.specs.Working.{Ran, seen_last}
-use Rattle.ups_net.specs.declared.threads.options.MetricsFile.{MetricsFile}
+use Rattle.ups_net.specs.declared.options.MetricsFile.{MetricsFile}
 use Rattle.ups_server.specs.Serving.{seats_of}
 use Rattle.ups_server.proofs.Seating.{all_here, as_many, seen_at_first}
 use Rattle.ups_server.proofs.serving.serve_kept.Goals as goal

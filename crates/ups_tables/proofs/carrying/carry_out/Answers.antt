@@ -11,7 +11,7 @@ use Rattle.ups_tables.specs.Fit.{how, AreFreed}
 use Rattle.ups_tables.specs.Planned.{IsPlan, room_for}
 use Rattle.ups_tables.proofs.Arms.{fresh_now, unfinished, here_now, set_here, set_apart, chosen_held, within, lent_room, lent_freed}
 use Rattle.ups_tables.proofs.Saying.{holds_is}
-use Rattle.ups_tables.proofs.Carried.{stands_create, stands_change, stands_set, stands_single, stands_global, stands_end, stands_end_all, stands_suspend, stands_ack, stands_sweep, stands_idle}
+use Rattle.ups_tables.proofs.Carried.{stands_create, stands_change, stands_set, stands_single, stands_global, stands_end, stands_end_all, stands_suspend, stands_ack, stands_reserve, stands_sweep, stands_idle}
 use Rattle.ups_tables.proofs.carrying.carry_out.Goals as goal
 
 pub create-requires-clause-fresh : goal.create-requires-clause-fresh
@@ -146,6 +146,9 @@ pub sweep-requires-clause-due : goal.sweep-requires-clause-due
 sweep-requires-clause-due g c =
     let p = subst (λ (x : Plan g.row.A.Denot). IsPlan c.args.configuration.now (past c.args.history.now.entries) c.args.entry c.args.tables.now x) c.in-Sweep.is c.requires.plan in c.as_slice-swept.ensures.value ∙ p.due_are
 
+pub reserve_uid-requires-clause-room_used : goal.reserve_uid-requires-clause-room_used
+reserve_uid-requires-clause-room_used g c = subst (λ (x : Plan g.row.A.Denot). room_for c.args.tables.now x) c.in-Reserve.is c.requires.room
+
 pub returns-in-Create-clause-stands : goal.returns-in-Create-clause-stands
 returns-in-Create-clause-stands g c =
     stands_create c.args.configuration.now c.args.history.now.entries c.push_reserved.new.self.entries c.args.entry c.args.tables.now c.create.new.tables c.requires.stands c.push_reserved.ensures.entries c.requires.legal c.len-place.result c.len-place.ensures.len
@@ -195,6 +198,11 @@ pub returns-in-Sweep-clause-stands : goal.returns-in-Sweep-clause-stands
 returns-in-Sweep-clause-stands g c =
     stands_sweep c.args.configuration.now c.args.history.now.entries c.push_reserved.new.self.entries c.args.entry c.args.tables.now c.sweep.new.tables c.requires.stands c.push_reserved.ensures.entries c.requires.legal c.len-place.result c.len-place.ensures.len
     c.in-Sweep.due.items c.as_slice-swept.result.now c.in-Sweep.moment (subst (λ (x : Plan g.row.A.Denot). IsPlan c.args.configuration.now (past c.args.history.now.entries) c.args.entry c.args.tables.now x) c.in-Sweep.is c.requires.plan) c.as_slice-swept.ensures.value c.sweep.ensures.effect c.sweep.ensures.fits
+
+pub returns-in-Reserve-clause-stands : goal.returns-in-Reserve-clause-stands
+returns-in-Reserve-clause-stands g c =
+    stands_reserve c.args.configuration.now c.args.history.now.entries c.push_reserved.new.self.entries c.args.entry c.args.tables.now c.reserve_uid.new.tables c.requires.stands c.push_reserved.ensures.entries c.requires.legal c.len-place.result c.len-place.ensures.len
+    c.in-Reserve.step (subst (λ (x : Plan g.row.A.Denot). IsPlan c.args.configuration.now (past c.args.history.now.entries) c.args.entry c.args.tables.now x) c.in-Reserve.is c.requires.plan) c.reserve_uid.ensures.effect c.reserve_uid.ensures.fits
 
 pub returns-in-Idle-clause-stands : goal.returns-in-Idle-clause-stands
 returns-in-Idle-clause-stands g c =

@@ -1,0 +1,294 @@
+//! Which watchers are away, which deliverer takes which watcher, and the bells of the deliverers.
+
+ghost use Rattle.std.specs.Prelude.{◌≡◌, ◌+◌, ◌*◌, ◌<◌, ◌≤◌, ◌↔◌, IsTrue};
+ghost use Rattle.ups_net.specs.declared.roster.Share.TheVariants.{All, Quick};
+ghost use Rattle.ups_net.specs.Sharing.{may_take};
+
+use crate::bell::Bell;
+use std::alloc::{AllocError, Global};
+use std::sync::Wait;
+use std::sync::atomic::{AtomicU64, Ordering};
+use std::time::Clock;
+use ups_log::{UnloggedDeliveries, moment_of};
+
+/// The maximum number of seconds for which a watcher is passed over.
+const LONGEST: u64 = 60;
+
+/// The number of seconds between two counts of what waits for each watcher, each by one deliverer.
+const SECONDS_OF_A_COUNT: u64 = 64;
+
+/// The states of a watcher: no deliverer has it, one has it, and one has it while another has come for it.
+const FREE: u64 = 0;
+
+const TAKEN: u64 = 1;
+
+const WANTED: u64 = 2;
+
+/// Returns how many seconds to pass over a watcher that failed once more; `pause` is the number before that, 0 if it
+/// had not failed.
+pub fn longer_pause(pause: u64) -> u64
+    ensures first { pause ≡ 0 → result ≡ 1 }
+    ensures doubled { 0 < pause → pause ≤ 30 → result ≡ 2 * pause }
+    ensures most { 30 < pause → result ≡ 60 }
+{
+    if pause == 0 {
+        return 1;
+    }
+    pause.min(LONGEST / 2) * 2
+}
+
+/// Returns whether a watcher that failed at second `failed`, and is passed over for `pause` seconds, still is at `now`.
+/// It isn't if the clock was set back to before the failure.
+pub fn is_passed_over(failed: u64, pause: u64, now: u64) -> bool
+    ensures { IsTrue result ↔ ((failed ≤ now) × (now < failed + pause)) }
+{
+    failed <= now && now - failed < pause
+}
+
+/// The share of the watchers that a deliverer takes.
+#[derive(Clone, Copy, Debug, PartialEq, Eq)]
+pub enum Share {
+    /// All of them.
+    All,
+    /// Those that are quick: neither away nor slow.
+    Quick,
+}
+
+/// Returns which watchers a deliverer takes, by its place among the deliverers, from 1 on.
+///
+/// If there are several, those in the first half, rounded up, take only quick watchers. So the other watchers keep at
+/// most half of the deliverers busy.
+pub fn share_of(place: u32, deliverers: u32) -> Share
+    ensures alone { deliverers ≤ 1 → result ≡ All }
+    ensures first { 2 ≤ deliverers → 2 * place ≤ deliverers + 1 → result ≡ Quick }
+    ensures others { 2 ≤ deliverers → deliverers + 1 < 2 * place → result ≡ All }
+{
+    let (place, deliverers) = (u64::from(place), u64::from(deliverers));
+    if deliverers >= 2 && 2 * place <= deliverers + 1 {
+        return Share::Quick;
+    }
+    Share::All
+}
+
+/// Returns whether a deliverer with this share may take a watcher. A quick watcher is neither away nor slow.
+pub fn may_take(share: Share, is_quick: bool) -> bool
+    ensures { result ≡ may_take share is_quick }
+{
+    match share {
+        Share::All => true,
+        Share::Quick => is_quick,
+    }
+}
+
+/// Whether a watcher is away, by how its deliveries ended, and whether a deliverer has it. Only the deliverer that has
+/// it writes `pause`, `failed` and `slow`.
+pub(crate) struct Presence {
+    /// Whether a deliverer has it.
+    holder: AtomicU64,
+    /// The number of seconds for which it is passed over after its last failure; 0 while it isn't away.
+    pause: AtomicU64,
+    /// When it last failed, in seconds since 1970-01-01 UTC.
+    failed: AtomicU64,
+    /// 1 if it was slow to take the reports of its last delivery or to open an association, else 0.
+    slow: AtomicU64,
+    /// The number of events that waited for it when they were last counted.
+    waiting: AtomicU64,
+    /// The deliveries to it that were not logged yet.
+    pub(crate) unlogged: UnloggedDeliveries,
+}
+
+impl Drop for Presence {
+    fn drop(self) {
+        let Presence {
+            holder: _,
+            pause: _,
+            failed: _,
+            slow: _,
+            waiting: _,
+            unlogged: _,
+        } = self;
+    }
+}
+
+impl Presence {
+    /// Creates the presence of a watcher that has not failed yet, and that no deliverer has.
+    fn new() -> Presence {
+        Presence {
+            holder: AtomicU64::new(FREE),
+            pause: AtomicU64::new(0),
+            failed: AtomicU64::new(0),
+            slow: AtomicU64::new(0),
+            waiting: AtomicU64::new(0),
+            unlogged: UnloggedDeliveries::new(),
+        }
+    }
+
+    /// Takes the watcher for one deliverer. Returns false if another has it.
+    pub(crate) fn take(&self) -> bool {
+        self.holder
+            .compare_exchange(FREE, TAKEN, Ordering::SeqCst, Ordering::SeqCst)
+            .is_ok()
+    }
+
+    /// Tells the deliverer that has the watcher that something waits for it again. Returns false if none has it any
+    /// longer.
+    pub(crate) fn want(&self) -> bool {
+        let found = self
+            .holder
+            .compare_exchange(TAKEN, WANTED, Ordering::SeqCst, Ordering::SeqCst);
+        found != Err(FREE)
+    }
+
+    /// Lets go of the watcher that this deliverer has, and returns whether another came for it in the meantime.
+    pub(crate) fn let_go(&self) -> bool {
+        self.holder.swap(FREE, Ordering::SeqCst) == WANTED
+    }
+
+    /// Returns whether the watcher is away.
+    pub(crate) fn is_away(&self) -> bool {
+        self.pause.load(Ordering::SeqCst) > 0
+    }
+
+    /// Returns whether the watcher is quick: neither away nor slow.
+    pub(crate) fn is_quick(&self) -> bool {
+        !self.is_away() && self.slow.load(Ordering::SeqCst) == 0
+    }
+
+    /// Returns whether a deliverer with this share delivers to the watcher now.
+    pub(crate) fn is_due<R: Clock>(&self, rt: &R, share: Share) -> bool {
+        let pause = self.pause.load(Ordering::SeqCst);
+        let failed = self.failed.load(Ordering::SeqCst);
+        may_take(share, self.is_quick()) && !is_passed_over(failed, pause, moment_of(rt))
+    }
+
+    /// Notes that a delivery to the watcher failed, and returns whether it goes away by that.
+    ///
+    /// If it acknowledged a report before, it is tried again after a second, however often it has failed.
+    pub(crate) fn goes<R: Clock>(&self, rt: &R, has_taken: bool) -> bool {
+        let pause = self.pause.load(Ordering::SeqCst);
+        let before = if has_taken { 0 } else { pause };
+        self.failed.store(moment_of(rt), Ordering::SeqCst);
+        self.pause.store(longer_pause(before), Ordering::SeqCst);
+        pause == 0
+    }
+
+    /// Notes that a delivery to the watcher succeeded and whether it was slow, and returns whether it comes back by
+    /// that.
+    pub(crate) fn comes(&self, is_slow: bool) -> bool {
+        self.slow.store(u64::from(is_slow), Ordering::SeqCst);
+        self.pause.swap(0, Ordering::SeqCst) > 0
+    }
+
+    /// Notes that the watcher is slow to open an association.
+    pub(crate) fn slows(&self) {
+        self.slow.store(1, Ordering::SeqCst);
+    }
+
+    /// Notes how many events wait for the watcher.
+    pub(crate) fn note_waiting(&self, waiting: u64) {
+        self.waiting.store(waiting, Ordering::SeqCst);
+    }
+
+    /// Returns how many events waited for the watcher when they were last counted.
+    pub(crate) fn waiting(&self) -> u64 {
+        self.waiting.load(Ordering::SeqCst)
+    }
+}
+
+/// What the deliverers of a server know of its watchers, and their bells.
+///
+/// A watcher that fails is away until a delivery to it succeeds. It is passed over for a second, and after each further
+/// failure for twice as long as before, for at most a minute. A deliverer takes a watcher that no other one has, gives
+/// it all the time that it is to have, and lets it go: so one that doesn't answer keeps one deliverer busy, and no
+/// other watcher waiting while a deliverer is free. Half of the deliverers take only quick watchers: neither away, nor
+/// slow with their last reports. Before a deliverer connects to a watcher, it rings for another, which looks after the
+/// next ones. No contract covers that.
+pub struct Roster {
+    presences: Vec<Presence>,
+    /// The presence of a watcher that isn't among them.
+    other: Presence,
+    /// The number of deliverers.
+    deliverers: u32,
+    /// The bell of those that take only quick watchers.
+    quick: Bell,
+    /// The bell of the others.
+    all: Bell,
+    /// When what waits for each watcher was last counted, in seconds since 1970-01-01 UTC.
+    counted: AtomicU64,
+}
+
+impl Drop for Roster {
+    fn drop(self) {
+        let Roster {
+            presences: _,
+            other: _,
+            deliverers: _,
+            quick: _,
+            all: _,
+            counted: _,
+        } = self;
+    }
+}
+
+impl Roster {
+    /// Creates the roster of `watchers` watchers, none of which is away, for `deliverers` deliverers.
+    ///
+    /// # Errors
+    ///
+    /// If memory runs out.
+    pub fn new(alloc: Global, watchers: usize, deliverers: u32) -> Result<Roster, AllocError> {
+        let mut presences = Vec::with_capacity(alloc, watchers)?;
+        for _ in 0..watchers {
+            presences.push(Presence::new())?;
+        }
+        Ok(Roster {
+            presences,
+            other: Presence::new(),
+            deliverers,
+            quick: Bell::new(),
+            all: Bell::new(),
+            counted: AtomicU64::new(0),
+        })
+    }
+
+    /// Returns which watchers a deliverer takes, by its place among the deliverers, from 1 on.
+    pub(crate) fn share_of(&self, place: u32) -> Share {
+        share_of(place, self.deliverers)
+    }
+
+    /// Returns whether there are more watchers than deliverers, so that a watcher may wait for a deliverer.
+    pub(crate) fn is_crowded(&self) -> bool {
+        self.presences.len() as u64 > u64::from(self.deliverers)
+    }
+
+    /// Returns the presence of the watcher in a place.
+    pub(crate) fn presence(&self, place: usize) -> &Presence {
+        self.presences.get(place).unwrap_or(&self.other)
+    }
+
+    /// Rings for a deliverer of each share.
+    pub(crate) fn ring(&self) {
+        self.quick.ring();
+        self.all.ring();
+    }
+
+    /// Waits until the bell rings for a deliverer with this share, for some seconds at most.
+    pub(crate) fn wait<R: Wait>(&self, rt: &R, share: Share) {
+        match share {
+            Share::Quick => self.quick.wait(rt),
+            Share::All => self.all.wait(rt),
+        }
+    }
+
+    /// Returns whether to count now what waits for each watcher: true for one deliverer, about once a minute.
+    pub(crate) fn is_count_due<R: Clock>(&self, rt: &R) -> bool {
+        let now = moment_of(rt);
+        let counted = self.counted.load(Ordering::SeqCst);
+        if is_passed_over(counted, SECONDS_OF_A_COUNT, now) {
+            return false;
+        }
+        self.counted
+            .compare_exchange(counted, now, Ordering::SeqCst, Ordering::SeqCst)
+            .is_ok()
+    }
+}

@@ -1,0 +1,129 @@
+//! The network of a runtime, whatever it logs to.
+
+use crate::backlog::{list_of, waiting_at};
+use crate::supervisor::send_to;
+use log::Handle;
+use std::fs::Permissions;
+use std::io::{self, BufReader, Write};
+use std::net::{SocketAddr, TcpListener, TcpStream, ToSocketAddrs};
+use std::os::unix::fs::PermissionsExt;
+use std::time::Duration;
+use std::{env, fs};
+
+/// The maximum number of addresses of a host that are used.
+pub const MAX_ADDRESSES: usize = 8;
+
+/// A runtime with the network of the host, as a server needs it.
+///
+/// The `Handle` of `log`, a runtime that logs elsewhere, neither looks a name up nor connects within a time limit by
+/// itself: here it does what the runtime inside it does.
+pub trait Network {
+    /// Returns the addresses of a host, given by name or number, with this port, in the order of the name service: the first
+    /// eight, or none if it has none.
+    ///
+    /// # Errors
+    ///
+    /// If looking the name up fails; OutOfMemory.
+    fn look_up(&self, host: &str, port: u16) -> io::Result<Vec<SocketAddr>>;
+
+    /// Connects to an address within a limit; None is no limit.
+    ///
+    /// # Errors
+    ///
+    /// If connecting fails; TimedOut if it takes longer.
+    fn connect(&self, address: SocketAddr, limit: Option<Duration>) -> io::Result<TcpStream>;
+
+    /// Listens at a host, given by name or number, and a port.
+    ///
+    /// # Errors
+    ///
+    /// If looking the name up or listening fails.
+    fn listen(&self, host: &str, port: u16) -> io::Result<TcpListener>;
+
+    /// Returns how many connections wait to be accepted at an address at which this program listens, or None if the
+    /// system does not tell.
+    fn waiting_at(&self, address: SocketAddr) -> Option<u64>;
+
+    /// Tells the supervisor of the service, such as systemd, how it is: lines of sd_notify(3), as `READY=1`. Does
+    /// nothing if there is no supervisor that asks to be told (`NOTIFY_SOCKET`).
+    fn tell_supervisor(&self, state: &str);
+
+    /// Puts bytes in the place of a file, which everybody may read. They are written to another file beside it, with
+    /// `.new` behind its name, which then takes its name: so who reads the file never sees a part of them.
+    ///
+    /// # Errors
+    ///
+    /// If memory runs out, or a file can't be written or renamed: the file is as it was then.
+    fn replace_file(&self, file: &str, bytes: &[u8]) -> io::Result<()>;
+}
+
+/// Who may read a file that is put in the place of another: everybody, whatever the umask is.
+const FOR_ALL: u32 = 0o644;
+
+impl Network for HostRuntime {
+    fn look_up(&self, host: &str, port: u16) -> io::Result<Vec<SocketAddr>> {
+        let mut found = Vec::new(self.alloc());
+        for address in (host, port).to_socket_addrs(self)?.take(MAX_ADDRESSES) {
+            found.push(address)?;
+        }
+        Ok(found)
+    }
+
+    fn connect(&self, address: SocketAddr, limit: Option<Duration>) -> io::Result<TcpStream> {
+        match limit {
+            Some(limit) => TcpStream::connect_timeout(self, &address, limit),
+            None => TcpStream::connect(self, address),
+        }
+    }
+
+    fn listen(&self, host: &str, port: u16) -> io::Result<TcpListener> {
+        TcpListener::bind(self, (host, port))
+    }
+
+    fn waiting_at(&self, address: SocketAddr) -> Option<u64> {
+        let list = fs::open(self, list_of(address)).ok()?;
+        let list = BufReader::new(self.alloc(), list).ok()?;
+        waiting_at(self.alloc(), list, address)
+    }
+
+    fn tell_supervisor(&self, state: &str) {
+        if let Ok(path) = env::var(self, "NOTIFY_SOCKET") {
+            send_to(path.as_str(), state);
+        }
+    }
+
+    fn replace_file(&self, file: &str, bytes: &[u8]) -> io::Result<()> {
+        let beside = format!(in self.alloc(); "{file}.new")?;
+        let mut written = fs::create(self, beside.as_str())?;
+        written.set_permissions(Permissions::from_mode(FOR_ALL))?;
+        written.write_all(bytes)?;
+        drop(written);
+        fs::rename(self, beside.as_str(), file)
+    }
+}
+
+impl<R: Network, L> Network for Handle<R, L> {
+    fn look_up(&self, host: &str, port: u16) -> io::Result<Vec<SocketAddr>> {
+        self.inner().look_up(host, port)
+    }
+
+    fn connect(&self, address: SocketAddr, limit: Option<Duration>) -> io::Result<TcpStream> {
+        self.inner().connect(address, limit)
+    }
+
+    fn listen(&self, host: &str, port: u16) -> io::Result<TcpListener> {
+        self.inner().listen(host, port)
+    }
+
+    fn waiting_at(&self, address: SocketAddr) -> Option<u64> {
+        self.inner().waiting_at(address)
+    }
+
+    fn tell_supervisor(&self, state: &str) {
+        self.inner().tell_supervisor(state);
+    }
+
+    fn replace_file(&self, file: &str, bytes: &[u8]) -> io::Result<()> {
+        self.inner().replace_file(file, bytes)
+    }
+}
