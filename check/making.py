@@ -88,5 +88,10 @@ def fault_of_earlier(program: list[str], file: str) -> Optional[str]:
         if not ITS_STEPS <= found or used != 0x0111 or rows_of(file)[:len(rows)] != rows:
             return f"start {again}: the steps {sorted(found)} are there, a used UID gets {used:04X}, and {len(rows_of(file))} requests are kept"
     come, runs = compacted(program, file), runs_of(file)
-    is_good = come.status == 0 and runs[0][5] is None and runs[-1][5] == "keep=1\noffset=60\nlock=WATCH1\n" and len(rows_of(file)) < len(rows)
+    left = len(rows_of(file))
+    with Stored(program, file, *ITS_SETTINGS) as server:
+        used = Client(server.port).create(REMOVED, a_step_of(b"P"))
+    if used != 0x0111:
+        return f"behind a compaction a used UID gets {used:04X}"
+    is_good = come.status == 0 and runs[0][5] is None and runs[-1][5] == "keep=1\noffset=60\nlock=WATCH1\n" and left < len(rows)
     return None if is_good else f"a compaction ends with {come.status}: {come.said[-200:]!r}, and the runs are {runs}"
