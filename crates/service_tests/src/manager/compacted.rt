@@ -343,7 +343,7 @@ fn compacted_histories_of_a_seventh_chance_reply_the_same(rt: HostRuntime) -> Re
 }
 
 #[test]
-fn compacted_histories_of_a_eighth_chance_reply_the_same(rt: HostRuntime) -> Result<(), Fail> {
+fn compacted_histories_of_an_eighth_chance_reply_the_same(rt: HostRuntime) -> Result<(), Fail> {
     histories_are_the_same(&rt, 8)
 }
 
