@@ -22,9 +22,10 @@ use ups_restore::compact;
 /// The number of counts.
 const COUNTED: usize = 5;
 
-/// The number of histories of a test, and the calls of each.
+/// The number of histories of a test.
 const HISTORIES: u32 = 100;
 
+/// The number of calls of a history.
 const CALLS: u32 = 100;
 
 /// The least value of each count: half of what is seen, or less.
