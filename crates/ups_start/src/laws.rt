@@ -23,8 +23,8 @@ pub fn a_start_has_what_answers_rest_on()
 {}
 
 /// A start stands for the same log as the history of the requests that it enters: it begins with that history, or with its
-/// compaction. So however many starts have compacted a store, a server gives each request the reply of the log of all
-/// requests that were ever accepted, by the law of `ups_compact` on what is left of a log.
+/// compaction. So it gives each request the reply of that log, by the law of `ups_compact` on what is left of one. That the
+/// entries which it enters are those of the run before is not said here: only their records are found in the store.
 pub fn a_start_stands_for_the_same_log()
     ensures { (s : Settings) → (found : List (Record Global)) → (choices : StartChoices) → (moment : ℕ) → (after log : List (Entry Global)) → has_title_twice s.peers ≡ false
         → (b : Begins s found choices moment after) → IsLeftOf s b.entered log → IsLeftOf s after log }
