@@ -5,13 +5,9 @@ use std::alloc::{Allocator, Global};
 use std::fmt::Write;
 use std::str;
 use std::test::Fail;
-use ups_compact::{KeptSteps, known_up_to, pays, reports_known_up_to, reservation};
-use ups_life::{
-    Ask, Entry, Event, EventKind, EventReport, EventReports, MAX_MOMENT, MAX_PEERS, Peer, Reply,
-    Request, StepUid, read_request,
-};
+use ups_compact::{KeptSteps, pays, reservation};
+use ups_life::{Ask, Entry, MAX_MOMENT, MAX_PEERS, Peer, Reply, Request, StepUid, read_request};
 use ups_manager::*;
-use ups_pdu::Ae;
 
 /// A day, with a request in each line: who asks and when, in seconds, and what, as in `fixtures::words`; or an
 /// acknowledgement, a sweep, or the reservation of a UID.
@@ -33,7 +29,7 @@ RIS 150 create 1.2.3.3 B
 RIS 200 sweep
 W1 210 ack 3";
 
-/// What is left of the day, followed by the moments of what is left, and how many entries that is of how many.
+/// What is left of the day, and how many entries that is of how many.
 const LEFT: &str = "\
 W1 0 3 global 00741234=W1 00741230=FALSE
 RIS 10 create 1.2.3.1 B
@@ -41,7 +37,7 @@ W2 26 3 1.2.3.1 00741234=W2 00741230=TRUE
 CAD 30 1 1.2.3.1 00741000=IN_PROGRESS 00081195=2.1
 CAD 40 set 1.2.3.1 00741002=[00741004=50] 00081195=2.1
 RIS 150 create 1.2.3.3 B
-0 10 26 30 40 150 6 of 13";
+6 of 13";
 
 /// What remains of the entries that go: the moment of each reservation and the UID that it reserves.
 const RESERVED: &str = "20 1.2.3.2\n";
@@ -58,14 +54,6 @@ RIS 150 create 1.2.3.3 B";
 
 /// The peers; the first two may lock steps.
 const PEERS: [(&str, bool); 3] = [("W1", true), ("W2", true), ("W3", false)];
-
-/// What is pending for each peer: after the day, after what is left of it, how much of that is known, and what is
-/// pending after the acknowledgements.
-const PENDING: &str = "\
-W1 = 4p1 6s2 7s3 | 2s1 3p1 4s3 | 2 | 3p1 4s3
-W2 = | 2s1 3p1 | 3 |
-W3 = | | - |
-";
 
 /// How many entries stay of how many, and whether a compaction pays.
 const PAYS: &str = "\
@@ -173,28 +161,13 @@ fn lines_left(alloc: Global, kept: &KeptSteps<Global>, lines: &str) -> Result<St
     Ok(left)
 }
 
-/// Returns the moments of the entries that stay in a list of them.
-fn moments_left(alloc: Global, kept: &KeptSteps<Global>, lines: &str) -> Result<String, Fail> {
-    let mut entries = Vec::new(alloc);
-    for line in lines.lines() {
-        entries.push(entry_of(alloc, line)?)?;
-    }
-    kept.retain_left(&mut entries);
-    let mut moments = String::new(alloc);
-    for entry in &entries {
-        write!(moments, "{} ", entry.moment)?;
-    }
-    Ok(moments)
-}
-
-/// Returns which lines stay, which entries do, and how many of all.
+/// Returns which lines stay, and how many of all entries do.
 fn left_by(
     alloc: Global,
     kept: &KeptSteps<Global>,
     history: &[Entry<Global>],
 ) -> Result<String, Fail> {
     let mut text = lines_left(alloc, kept, DAY)?;
-    text.push_str(moments_left(alloc, kept, DAY)?.as_str())?;
     let count = kept.count_left(history);
     write!(text, "{count} of {}", history.len())?;
     Ok(text)
@@ -259,203 +232,6 @@ fn of_a_creation_that_goes_the_reservation_of_its_uid_remains(rt: HostRuntime) -
     check_reserved(&mut manager, rt.alloc())
 }
 
-/// Returns the first letter of the word for a kind.
-fn letter_of(kind: EventKind) -> char {
-    match kind {
-        EventKind::StateReport => 's',
-        EventKind::CancelRequested => 'c',
-        EventKind::ProgressReport => 'p',
-        EventKind::Assigned => 'a',
-    }
-}
-
-/// Adds an event as text: its number, the letter of its kind, and the last digit of its step.
-fn add_event(text: &mut String, event: &Event) -> Result<(), Fail> {
-    let letter = letter_of(event.kind);
-    let uid = str::from_utf8(event.step.as_bytes()).ok().ok_or("a text")?;
-    let (_, digit) = uid.rsplit_once('.').ok_or("a step")?;
-    write!(text, " {}{letter}{digit}", event.number)?;
-    Ok(())
-}
-
-/// Returns what is pending for a peer.
-fn pending_of(manager: &Manager<Global>, ae: Ae) -> Result<EventReports<Global>, Fail> {
-    match manager.pending(ae, 1_000) {
-        Reply::Reports(reports) => Ok(reports),
-        _ => Err("no reports".into()),
-    }
-}
-
-/// Returns the events of reports as a text.
-fn told(alloc: Global, reports: &[EventReport<Global>]) -> Result<String, Fail> {
-    let mut text = String::new(alloc);
-    for report in reports {
-        add_event(&mut text, &report.event)?;
-    }
-    Ok(text)
-}
-
-/// Returns the events of reports.
-fn events_of(alloc: Global, reports: &[EventReport<Global>]) -> Result<Vec<Event>, Fail> {
-    let mut events = Vec::new(alloc);
-    for report in reports {
-        events.push(report.event)?;
-    }
-    Ok(events)
-}
-
-/// Returns what is pending for a peer as a text.
-fn told_of(alloc: Global, manager: &Manager<Global>, ae: Ae) -> Result<String, Fail> {
-    let reports = pending_of(manager, ae)?;
-    told(alloc, reports.as_slice())
-}
-
-/// Returns the number to acknowledge, by events; fails if it is not the one by reports.
-fn known_in(
-    alloc: Global,
-    kept: &KeptSteps<Global>,
-    old: &[EventReport<Global>],
-    fresh: &[EventReport<Global>],
-) -> Result<Option<u64>, Fail> {
-    let by_reports = reports_known_up_to(kept.count_reports(old), fresh);
-    let untold = kept.count_events(&events_of(alloc, old)?);
-    let by_events = known_up_to(untold, &events_of(alloc, fresh)?);
-    if by_events != by_reports {
-        return Err("two numbers".into());
-    }
-    Ok(by_events)
-}
-
-/// Returns the number that a peer is to acknowledge after what is left.
-fn known_of(
-    alloc: Global,
-    kept: &KeptSteps<Global>,
-    day: &Manager<Global>,
-    left: &Manager<Global>,
-    ae: Ae,
-) -> Result<Option<u64>, Fail> {
-    let old = pending_of(day, ae)?;
-    let fresh = pending_of(left, ae)?;
-    known_in(alloc, kept, old.as_slice(), fresh.as_slice())
-}
-
-/// Enters the acknowledgement of a peer, if there is one, and returns its number as a text.
-fn acknowledge(
-    alloc: Global,
-    manager: &mut Manager<Global>,
-    ae: Ae,
-    number: Option<u64>,
-) -> Result<String, Fail> {
-    let Some(upto) = number else {
-        return Ok(format!(in alloc; "-")?);
-    };
-    manager.submit(Entry {
-        caller: 0,
-        ae,
-        moment: 300,
-        request: Request::Ack { upto },
-    });
-    Ok(format!(in alloc; "{upto}")?)
-}
-
-/// Adds what is pending for a peer to a row.
-fn add_told(
-    row: &mut String,
-    alloc: Global,
-    manager: &Manager<Global>,
-    ae: Ae,
-) -> Result<(), Fail> {
-    let events = told_of(alloc, manager, ae)?;
-    row.push_str(events.as_str())?;
-    Ok(())
-}
-
-/// Adds the number that a peer acknowledges to its row.
-fn add_number(
-    row: &mut String,
-    alloc: Global,
-    manager: &mut Manager<Global>,
-    ae: Ae,
-    number: Option<u64>,
-) -> Result<(), Fail> {
-    let number = acknowledge(alloc, manager, ae, number)?;
-    row.push_str(" | ")?;
-    row.push_str(number.as_str())?;
-    row.push_str(" |")?;
-    Ok(())
-}
-
-/// Adds the row of a peer.
-fn add_row(
-    rows: &mut String,
-    alloc: Global,
-    kept: &KeptSteps<Global>,
-    day: &Manager<Global>,
-    left: &mut Manager<Global>,
-    name: &str,
-) -> Result<(), Fail> {
-    let ae = title(name)?;
-    rows.push_str(name)?;
-    rows.push_str(" =")?;
-    add_told(rows, alloc, day, ae)?;
-    rows.push_str(" |")?;
-    add_told(rows, alloc, left, ae)?;
-    let known = known_of(alloc, kept, day, left, ae)?;
-    add_number(rows, alloc, left, ae, known)?;
-    add_told(rows, alloc, left, ae)?;
-    rows.push('\n')?;
-    Ok(())
-}
-
-/// Returns the lines of what is left, without the line after them.
-fn left_lines() -> Result<&'static str, Fail> {
-    let (lines, _) = LEFT.rsplit_once('\n').ok_or("lines")?;
-    Ok(lines)
-}
-
-/// Returns the rows of the peers.
-fn rows_of(
-    alloc: Global,
-    day: &Manager<Global>,
-    left: &mut Manager<Global>,
-) -> Result<String, Fail> {
-    let kept = kept_by(day, alloc)?;
-    let mut rows = String::new(alloc);
-    for (name, _) in PEERS {
-        add_row(&mut rows, alloc, &kept, day, left, name)?;
-    }
-    Ok(rows)
-}
-
-/// Enters what is left of the day, and fails if what is pending then is wrong.
-fn check_pending(
-    alloc: Global,
-    day: &Manager<Global>,
-    left: &mut Manager<Global>,
-) -> Result<(), Fail> {
-    enter_all(left, left_lines()?, alloc)?;
-    let rows = rows_of(alloc, day, left)?;
-    check_same("pending", rows.as_str(), PENDING)
-}
-
-/// The same with a new manager for what is left, beside one that has the day.
-fn check_beside(alloc: Global, day: &Manager<Global>) -> Result<(), Fail> {
-    let mut left = manager_of(alloc)?;
-    check_pending(alloc, day, &mut left)
-}
-
-/// Enters the day, and fails if what is pending after what is left of it is wrong.
-fn check_day(alloc: Global, day: &mut Manager<Global>) -> Result<(), Fail> {
-    enter_all(day, DAY, alloc)?;
-    check_beside(alloc, day)
-}
-
-#[test]
-fn what_is_pending_stays_but_for_removed_steps(rt: HostRuntime) -> Result<(), Fail> {
-    let mut day = manager_of(rt.alloc())?;
-    check_day(rt.alloc(), &mut day)
-}
-
 /// Enters lines, and returns the number of the status when the removed step is created then.
 fn created_again(alloc: Global, manager: &mut Manager<Global>, lines: &str) -> Result<u16, Fail> {
     enter_all(manager, lines, alloc)?;
@@ -472,14 +248,8 @@ fn created_after(alloc: Global, lines: &str) -> Result<u16, Fail> {
 }
 
 #[test]
-fn the_uid_of_a_removed_step_is_free_again(rt: HostRuntime) -> Result<(), Fail> {
-    assert_eq!(rt; created_after(rt.alloc(), DAY)?, 0x0111);
-    assert_eq!(rt; created_after(rt.alloc(), left_lines()?)?, 0x0000);
-    Ok(())
-}
-
-#[test]
 fn a_reserved_uid_stays_used(rt: HostRuntime) -> Result<(), Fail> {
+    assert_eq!(rt; created_after(rt.alloc(), DAY)?, 0x0111);
     assert_eq!(rt; created_after(rt.alloc(), LEFT_RESERVED)?, 0x0111);
     Ok(())
 }

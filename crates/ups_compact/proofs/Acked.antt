@@ -8,13 +8,12 @@ use Rattle.ups_life.specs.declared.peer.Peer.{Peer}
 use Rattle.ups_life.specs.declared.request.Request.{Request}
 use Rattle.ups_life.specs.declared.request.Request.TheVariants.{Create, Change, AskCancel, Set, Subscribe, Unsubscribe, Suspend, Ack, Sweep, Reserve}
 use Rattle.ups_life.specs.Settings.{Settings}
-use Rattle.ups_life.specs.Steps.{row_of, holder}
-use Rattle.ups_life.specs.Watching.{is_peer, cover, watch, is_due, held}
-use Rattle.ups_life.specs.Filters.{filter_now}
+use Rattle.ups_life.specs.Steps.{row_of}
+use Rattle.ups_life.specs.Watching.{is_peer, cover, watch, held}
 use Rattle.ups_life.specs.Events.{events, acked_after, acked}
 use Rattle.ups_life.proofs.Texts.{same_text}
 use Rattle.ups_life.proofs.Accepted.{neither}
-use Rattle.ups_compact.specs.Compacting.{is_left, left, with_ack, with_acks, has_title_twice}
+use Rattle.ups_compact.specs.Compacting.{is_left, with_ack, with_acks, has_title_twice}
 
 -- an acknowledgement, as an entry
 abbrev pub ack : {A : Type 0} → ℕ → ℕ → List ℕ → ℕ → Entry A
@@ -34,20 +33,11 @@ module _ {A : Type 0} (caller moment : ℕ) (number : List ℕ → Option ℕ) (
   pub row_of_acks : (s : Settings) (u : List ℕ) → row_of s (with_acks caller moment number ps es) u ≡ row_of s es u
   row_of_acks s u = with_each caller moment number (λ (xs : List (Entry A)). row_of s xs u) (λ w n xs. refl) ps es
 
-  pub holder_acks : (u : List ℕ) → holder (with_acks caller moment number ps es) u ≡ holder es u
-  holder_acks u = with_each caller moment number (λ (xs : List (Entry A)). holder xs u) (λ w n xs. refl) ps es
-
   pub watch_acks : (s : Settings) (w u : List ℕ) → watch s (with_acks caller moment number ps es) w u ≡ watch s es w u
   watch_acks s w u = with_each caller moment number (λ (xs : List (Entry A)). watch s xs w u) (λ v n xs. refl) ps es
 
-  pub due_acks : (s : Settings) (at : ℕ) (u : List ℕ) → is_due s (with_acks caller moment number ps es) at u ≡ is_due s es at u
-  due_acks s at u = with_each caller moment number (λ (xs : List (Entry A)). is_due s xs at u) (λ w n xs. refl) ps es
-
   pub cover_acks : (peers : List Peer) (w : List ℕ) (attributes : _) → cover peers (with_acks caller moment number ps es) w attributes ≡ cover peers es w attributes
   cover_acks peers w attributes = with_each caller moment number (λ (xs : List (Entry A)). cover peers xs w attributes) (λ v n xs. refl) ps es
-
-  pub filter_acks : (w : List ℕ) → filter_now (with_acks caller moment number ps es) w ≡ filter_now es w
-  filter_acks w = with_each caller moment number (λ (xs : List (Entry A)). filter_now xs w) (λ v n xs. refl) ps es
 
   pub held_acks : (s : Settings) → held s (with_acks caller moment number ps es) ≡ held s es
   held_acks s = with_each caller moment number (λ (xs : List (Entry A)). held s xs) (λ w n xs. refl) ps es
@@ -103,11 +93,3 @@ stays_unacked steps w ae n (Unsubscribe place receiver) h = refl
 stays_unacked steps w ae n (Suspend receiver) h = refl
 stays_unacked steps w ae n Sweep h = refl
 stays_unacked steps w ae n (Reserve step) h = refl
-
-pub left_acked : {A : Type 0} (steps : List (List ℕ)) (w : List ℕ) (es : List (Entry A)) → acked (left steps es) w ≡ 0
-left_acked steps w [] = refl
-left_acked {A} steps w (e ∷ es) = at (is_left steps e.request) refl (left_acked steps w es)
-  where
-    at : (b : Bool) → is_left steps e.request ≡ b → acked (left steps es) w ≡ 0 → acked (cond b (e ∷ left steps es) (left steps es)) w ≡ 0
-    at true is h = stays_unacked steps w e.ae (acked (left steps es) w) e.request is ∙ h
-    at false is h = h

@@ -2,7 +2,6 @@
 use Rattle.std.proofs.Common.{◌≡◌, ℕ, Bool, true, false, cond, List, [], ◌∷◌, Option, refl, sym, ap, ◌∙◌}
 use Rattle.std.specs.Str.{bytes_eq}
 use Rattle.ups_dataset.specs.Data.{El}
-use Rattle.ups_match.specs.Matching.{KeySet}
 use Rattle.ups_life.specs.declared.entry.Entry.{Entry}
 use Rattle.ups_life.specs.declared.peer.Peer.{Peer}
 use Rattle.ups_life.specs.declared.request.Request.{Request}
@@ -11,7 +10,6 @@ use Rattle.ups_life.specs.declared.watching.Subscription.{Subscription}
 use Rattle.ups_life.specs.declared.watching.Target.TheVariants.{Single, Global, Filtered}
 use Rattle.ups_life.specs.declared.watching.Place.TheVariants.{At, Everywhere}
 use Rattle.ups_life.specs.Watching.{cover_after, cover}
-use Rattle.ups_life.specs.Filters.{filter_after, filter_now}
 use Rattle.ups_compact.specs.Compacting.{left}
 use Rattle.ups_compact.proofs.Off.{does_some, plain, said_left}
 
@@ -43,32 +41,6 @@ cover_plain {A} steps peers w attributes (e ∷ es) = at (does_some steps e.requ
     at true is h = ap (λ (x : Option Subscription). cover_after peers w attributes x e.request) h
     at false is h = h ∙ sym (cover_off steps peers w attributes (cover peers es w attributes) e.request is)
 
-filter_off : {A : Type 0} (steps : List (List ℕ)) (w : List ℕ) (before : Option KeySet) (r : Request A) → does_some steps r ≡ false → filter_after w before r ≡ before
-filter_off steps w before (Create step set) out = refl
-filter_off steps w before (Change step state transaction) out = refl
-filter_off steps w before (AskCancel step reasons) out = refl
-filter_off steps w before (Set step transaction set) out = refl
-filter_off steps w before (Subscribe (Single step) receiver lock) out = either (bytes_eq receiver w) before
-filter_off steps w before (Subscribe Global receiver lock) out = absurd cc
-filter_off steps w before (Subscribe (Filtered keys) receiver lock) out = absurd cc
-filter_off steps w before (Unsubscribe (At step) receiver) out = either (bytes_eq receiver w) before
-filter_off steps w before (Unsubscribe Everywhere receiver) out = absurd cc
-filter_off steps w before (Suspend receiver) out = absurd cc
-filter_off steps w before (Ack upto) out = refl
-filter_off steps w before Sweep out = refl
-filter_off steps w before (Reserve step) out = refl
-
-pub filter_plain : {A : Type 0} (steps : List (List ℕ)) (w : List ℕ) (es : List (Entry A)) → filter_now (plain steps es) w ≡ filter_now es w
-filter_plain steps w [] = refl
-filter_plain {A} steps w (e ∷ es) = at (does_some steps e.request) refl (filter_plain steps w es)
-  where
-    at : (b : Bool) → does_some steps e.request ≡ b → filter_now (plain steps es) w ≡ filter_now es w → filter_now (cond b (e ∷ plain steps es) (plain steps es)) w ≡ filter_now (e ∷ es) w
-    at true is h = ap (λ (x : Option KeySet). filter_after w x e.request) h
-    at false is h = h ∙ sym (filter_off steps w (filter_now es w) e.request is)
-
 -- and in what is left, with its reservations
 pub cover_left : {A : Type 0} (steps : List (List ℕ)) (peers : List Peer) (w : List ℕ) (attributes : List El) (es : List (Entry A)) → cover peers (left steps es) w attributes ≡ cover peers es w attributes
 cover_left {A} steps peers w attributes es = said_left steps (λ (xs : List (Entry A)). cover peers xs w attributes) (cover_plain steps peers w attributes) es
-
-pub filter_left : {A : Type 0} (steps : List (List ℕ)) (w : List ℕ) (es : List (Entry A)) → filter_now (left steps es) w ≡ filter_now es w
-filter_left {A} steps w es = said_left steps (λ (xs : List (Entry A)). filter_now xs w) (filter_plain steps w) es

@@ -5,7 +5,7 @@ use Rattle.ups_dataset.specs.Data.{El, laid_over}
 use Rattle.ups_cycle.specs.declared.state.StepState.{StepState}
 use Rattle.ups_life.specs.declared.entry.Entry.{Entry}
 use Rattle.ups_life.specs.Settings.{Settings}
-use Rattle.ups_life.specs.Steps.{Claim, is_on, state_then, state, claimed, claim, right, finished, final_at, given, gives, row, row_of, holder}
+use Rattle.ups_life.specs.Steps.{Claim, is_on, state_then, state, claimed, claim, right, finished, final_at, given, gives, row, row_of}
 use Rattle.ups_life.specs.Watching.{is_among}
 use Rattle.ups_compact.specs.Compacting.{left}
 use Rattle.ups_compact.proofs.Off.{does_some, plain, off, said_left}
@@ -60,20 +60,11 @@ row_of_plain s steps u in' es =
     ∙ (ap (λ (x : Option (List ℕ)). record { attributes = row s es u; state = state es u; transaction = x; final_at = final_at (plain steps es) u }) c
     ∙ ap (λ (x : Option ℕ). record { attributes = row s es u; state = state es u; transaction = right es u; final_at = x }) f))
 
-pub holder_plain : {A : Type 0} (steps : List (List ℕ)) (u : List ℕ) → is_among u steps ≡ true → (es : List (Entry A)) → holder (plain steps es) u ≡ holder es u
-holder_plain steps u in' es = ap (λ (x : Option Claim). option_map (λ (k : Claim). k.holder) x) (claim_plain steps u in' es)
-
 -- and of what is left, with its reservations
 module _ {A : Type 0} (steps : List (List ℕ)) (u : List ℕ) (in' : is_among u steps ≡ true) (es : List (Entry A)) where
   pub state_left : state (left steps es) u ≡ state es u
   state_left = said_left steps (λ (xs : List (Entry A)). state xs u) (state_plain steps u in') es
 
-  pub holder_left : holder (left steps es) u ≡ holder es u
-  holder_left = said_left steps (λ (xs : List (Entry A)). holder xs u) (holder_plain steps u in') es
-
 module _ {A : Type 0} (s : Settings) (steps : List (List ℕ)) (u : List ℕ) (in' : is_among u steps ≡ true) (es : List (Entry A)) where
   pub row_left : row s (left steps es) u ≡ row s es u
   row_left = said_left steps (λ (xs : List (Entry A)). row s xs u) (row_plain s steps u in') es
-
-  pub row_of_left : row_of s (left steps es) u ≡ row_of s es u
-  row_of_left = said_left steps (λ (xs : List (Entry A)). row_of s xs u) (row_of_plain s steps u in') es

@@ -17,7 +17,7 @@ use Rattle.ups_compact.specs.Compacting.{is_left, sweeps_some, reservation, left
 use Rattle.ups_compact.proofs.KeptTold.{told_kept, legal_kept}
 use Rattle.ups_compact.proofs.Pending.{same_count}
 use Rattle.ups_compact.proofs.Room.{count, count_more, has_acked, one_more, none_has, Can, legal_acks, within_limit, length_acks}
-use Rattle.ups_compact.proofs.Shifts.{kept_acked, both_ends}
+use Rattle.ups_compact.proofs.Shifting.{kept_acked, both_ends}
 
 -- each that acknowledges has made one of the entries that are dropped
 step_for : {A : Type 0} (s : Settings) (steps : List (List ℕ)) (e : Entry A) (es : List (Entry A)) (ps : List Peer) (r : Request A) → has_title_twice ps ≡ false → (b : Bool) → is_left steps r ≡ b

@@ -1,7 +1,6 @@
 pub mod Accepting
 mod Acked
 pub mod Alike
-mod Answered
 mod Counting
 mod Covering
 mod Holding
@@ -13,14 +12,16 @@ mod Lifted
 mod Limits
 pub mod Needed
 mod Off
+pub mod Onward
 pub mod Ordered
-mod Outside
+pub mod Outside
 mod Pending
 mod Room
 mod Shifted
-pub mod Shifts
+pub mod Shifting
 pub mod Standing
 mod Staying
+pub mod Summing
 mod Telling
 mod Told
 mod Used

@@ -1,30 +1,24 @@
 -- What is compacted is legal: as many acknowledgements at least were dropped as are put behind it.
-use Rattle.std.proofs.Common.{◌≡◌, ℕ, suc, ◌+◌, ◌-◌, ◌<◌, ◌≤◌, Bool, true, false, ◌||◌, cond, List, [], ◌∷◌, ◌++◌, length, map, take, Option, None, Some, refl, sym, ap, subst, ◌∙◌, arith}
+use Rattle.std.proofs.Common.{◌≡◌, ℕ, suc, ◌+◌, ◌<◌, ◌≤◌, Bool, true, false, ◌||◌, cond, List, [], ◌∷◌, length, Option, None, Some, refl, sym, ap, subst, ◌∙◌, arith}
 use Rattle.std.specs.Prelude.{nat_lt, nat_le, is_some}
 use Rattle.std.specs.Str.{bytes_eq}
 use Rattle.std.proofs.lemmas.Bool.Decides.{nat_tests}
-use Rattle.std.proofs.lemmas.List.{append-nil, length-map}
+use Rattle.std.proofs.lemmas.List.{append-nil}
 use Rattle.ups_cycle.specs.declared.status.Status.TheVariants.{Success}
 use Rattle.ups_life.specs.declared.entry.Entry.{Entry}
 use Rattle.ups_life.specs.declared.event.Event.{Event}
 use Rattle.ups_life.specs.declared.peer.Peer.{Peer}
 use Rattle.ups_life.specs.declared.request.Reply.{Reply}
 use Rattle.ups_life.specs.declared.request.Reply.TheVariants.{Status as Answered, AckAhead, AckStale}
-use Rattle.ups_life.specs.declared.request.Request.{Request}
-use Rattle.ups_life.specs.declared.request.Request.TheVariants.{Create, Change, AskCancel, Set, Subscribe, Unsubscribe, Suspend, Ack, Sweep, Reserve}
 use Rattle.ups_life.specs.Settings.{Settings}
-use Rattle.ups_life.specs.Watching.{held, is_peer}
-use Rattle.ups_life.specs.Events.{current, events, acked_after, acked, pending}
+use Rattle.ups_life.specs.Watching.{is_peer}
+use Rattle.ups_life.specs.Events.{events, acked}
 use Rattle.ups_life.specs.History.{accepts, acknowledged, decided, in_room, reply, legal}
 use Rattle.ups_life.proofs.Texts.{same_text, text_is_itself}
 use Rattle.ups_life.proofs.Accepted.{neither, differ}
-use Rattle.ups_life.proofs.Current.{Rising}
-use Rattle.ups_compact.specs.Compacting.{is_left, left, compact, reported, told_of_steps, to_tell, of_steps, number_of_last, upto, with_ack, with_acks, compacted, has_title_twice}
-use Rattle.ups_compact.proofs.Staying.{Away}
-use Rattle.ups_compact.proofs.Accepting.{legal_left, had_room, has_room, both, join}
-use Rattle.ups_compact.proofs.Acked.{ack, left_acked}
-use Rattle.ups_compact.proofs.Known.{front, current_rises, known_was_made, known_is_some}
-use Rattle.ups_compact.proofs.Pending.{fresh, ends_with, same_count}
+use Rattle.ups_compact.specs.Compacting.{with_ack, with_acks, has_title_twice}
+use Rattle.ups_compact.proofs.Accepting.{had_room, has_room, both, join}
+use Rattle.ups_compact.proofs.Acked.{ack}
 
 -- HOW MANY PEERS
 
@@ -90,70 +84,11 @@ one_more ae n before (p ∷ ps) once = at (bytes_eq ae p.ae) refl (one_more ae n
         (at_most (nat_lt 0 n) (nat_lt 0 (before p.ae)) (count (λ w. nat_lt 0 (before w)) ps))
     at false is rest = too (nat_lt 0 (before p.ae)) (count (acked_then ae n before) ps) (count (λ w. nat_lt 0 (before w)) ps) rest
 
--- each of them made one of the entries that are dropped
-step : {A : Type 0} (steps : List (List ℕ)) (e : Entry A) (es : List (Entry A)) (ps : List Peer) (r : Request A) → has_title_twice ps ≡ false → (b : Bool) → is_left steps r ≡ b
-    → length (left steps es) + count (has_acked es) ps ≤ length es → length (cond b (e ∷ left steps es) (left steps es)) + count (λ w. nat_lt 0 (acked_after w e.ae (acked es w) r)) ps ≤ length (e ∷ es)
-step steps e es ps (Ack n) once true is h = absurd cc
-step steps e es ps (Ack n) once false is h = let some = one_more e.ae n (acked es) ps once in omega (arith, h, some)
-step steps e es ps (Create v set) once true is h = omega (arith, h)
-step steps e es ps (Create v set) once false is h = omega (arith, h)
-step steps e es ps (Change v state t) once true is h = omega (arith, h)
-step steps e es ps (Change v state t) once false is h = omega (arith, h)
-step steps e es ps (AskCancel v reasons) once true is h = omega (arith, h)
-step steps e es ps (AskCancel v reasons) once false is h = omega (arith, h)
-step steps e es ps (Set v t set) once true is h = omega (arith, h)
-step steps e es ps (Set v t set) once false is h = omega (arith, h)
-step steps e es ps (Subscribe target receiver lock) once true is h = omega (arith, h)
-step steps e es ps (Subscribe target receiver lock) once false is h = omega (arith, h)
-step steps e es ps (Unsubscribe place receiver) once true is h = omega (arith, h)
-step steps e es ps (Unsubscribe place receiver) once false is h = omega (arith, h)
-step steps e es ps (Suspend receiver) once true is h = omega (arith, h)
-step steps e es ps (Suspend receiver) once false is h = omega (arith, h)
-step steps e es ps Sweep once true is h = omega (arith, h)
-step steps e es ps Sweep once false is h = omega (arith, h)
-step steps e es ps (Reserve v) once true is h = omega (arith, h)
-step steps e es ps (Reserve v) once false is h = omega (arith, h)
-
 pub none_has : (A : Type 0) (ps : List Peer) → count (has_acked {A = A} []) ps ≡ 0
 none_has A [] = refl
 none_has A (p ∷ ps) = none_has A ps
 
-made_room : {A : Type 0} (steps : List (List ℕ)) (es : List (Entry A)) (ps : List Peer) → has_title_twice ps ≡ false → length (left steps es) + count (has_acked es) ps ≤ length es
-made_room {A} steps [] ps once = let none = none_has A ps in omega (arith, none)
-made_room steps (e ∷ es) ps once = step steps e es ps e.request once (is_left steps e.request) refl (made_room steps es ps once)
-
 -- WHO ACKNOWLEDGES HAS DONE SO BEFORE
-
-none_in_front : (n : ℕ) (xs : List Event) → Rising n xs → front n xs ≡ []
-unfolding Rising
-none_in_front n [] h = refl
-none_in_front n (x ∷ xs) h = ap (λ (b : Bool). cond b [] (x ∷ front n xs)) (is_later n x.number h.0)
-  where
-    is_later : (n m : ℕ) → n < m → nat_lt n m ≡ true
-    is_later n m h = grind (arith, nat_tests)
-
-all_told : {A : Type 0} (s : Settings) → Away A s → (es : List (Entry A)) (w : List ℕ) → legal s es ≡ true → acked es w ≡ 0 → length (pending s (compact s es) w) ≡ length (of_steps (held s es) (pending s es w))
-all_told s law es w l none =
-    sym (length-map (pending s (compact s es) w) reported)
-    ∙ ap length (ends_with s law es w l)
-    ∙ ap (λ (n : ℕ). length (told_of_steps (held s es) (map reported (front n (current (events s es w)))) ++ told_of_steps (held s es) (to_tell s es w))) none
-    ∙ ap (λ (xs : List Event). length (told_of_steps (held s es) (map reported xs) ++ told_of_steps (held s es) (to_tell s es w))) (none_in_front 0 (current (events s es w)) (current_rises s es w))
-    ∙ same_count (held s es) (pending s es w)
-
-none_known : (n m : ℕ) (xs : List Event) → n ≡ m → number_of_last (take (n - m) xs) ≡ None
-none_known n m xs same = ap (λ (k : ℕ). number_of_last (take k xs)) (let none : n - m ≡ 0 = omega (arith, same) in none)
-
-knows : {A : Type 0} (s : Settings) → Away A s → (es : List (Entry A)) (w : List ℕ) → legal s es ≡ true → is_some (upto s es w) ≡ true → has_acked es w ≡ true
-knows s law es w l h = at (nat_lt 0 (acked es w)) refl
-  where
-    zero_acked : (n : ℕ) → nat_lt 0 n ≡ false → n ≡ 0
-    zero_acked n is = grind (arith, nat_tests)
-
-    at : (b : Bool) → nat_lt 0 (acked es w) ≡ b → b ≡ true
-    at true is = refl
-    at false is =
-        let none : upto s es w ≡ None = none_known (length (pending s (compact s es) w)) (length (of_steps (held s es) (pending s es w))) (pending s (compact s es) w) (all_told s law es w l (zero_acked (acked es w) is)) in
-        absurd (differ (is_some (upto s es w)) (ap is_some none) h)
 
 -- a legal history is within its limit
 pub within_limit : {A : Type 0} (s : Settings) (es : List (Entry A)) → legal s es ≡ true → length es ≤ s.limit
@@ -225,24 +160,6 @@ legal_acks {A} caller moment s number (p ∷ ps) es once l can none room =
         (λ w there. ap (λ (b : Bool). cond b n (acked es w)) (other w there) ∙ none w (ap (λ (b : Bool). bytes_eq p.ae w || b) there ∙ or_true (bytes_eq p.ae w)))
         (omega (arith, enough))
 
-few_enough : {A : Type 0} (s : Settings) → Away A s → (es : List (Entry A)) → legal s es ≡ true → has_title_twice s.peers ≡ false → length (compact s es) + count (λ w. is_some (upto s es w)) s.peers ≤ length es
-few_enough s law es l once =
-    let fewer = count_more (λ w. is_some (upto s es w)) (has_acked es) (λ w. knows s law es w l) s.peers in
-    let room = made_room (held s es) es s.peers once in
-    omega (arith, fewer, room)
-
-pub legal_compacted : {A : Type 0} (caller moment : ℕ) (s : Settings) → Away A s → (es : List (Entry A)) → legal s es ≡ true → has_title_twice s.peers ≡ false → legal s (compacted caller moment s es) ≡ true
-legal_compacted caller moment s law es l once =
-    legal_acks caller moment s (upto s es) s.peers (compact s es) once (legal_left s law (held s es) es l (λ u h known. h)) can (λ w there. left_acked (held s es) w es)
-    (let few = few_enough s law es l once in let limit = within_limit s es l in omega (arith, few, limit))
-  where
-    can : Can s (compact s es) (upto s es)
-    can w n h =
-        let known = ap (λ (xs : List Event). number_of_last (take (length (pending s (compact s es) w) - length (of_steps (held s es) (pending s es w))) xs)) (sym (fresh s es w)) ∙ h in (
-          known_was_made s (compact s es) w (length (pending s (compact s es) w) - length (of_steps (held s es) (pending s es w))) n known,
-          known_is_some s (compact s es) w (length (pending s (compact s es) w) - length (of_steps (held s es) (pending s es w))) n known,
-        )
-
 pub length_acks : {A : Type 0} (caller moment : ℕ) (number : List ℕ → Option ℕ) (ps : List Peer) (es : List (Entry A)) → length (with_acks caller moment number ps es) ≡ length es + count (λ w. is_some (number w)) ps
 length_acks caller moment number [] es = omega arith
 length_acks {A} caller moment number (p ∷ ps) es = length_acks caller moment number ps (with_ack caller moment p.ae (number p.ae) es) ∙ at (number p.ae)
@@ -250,9 +167,3 @@ length_acks {A} caller moment number (p ∷ ps) es = length_acks caller moment n
     at : (o : Option ℕ) → length (with_ack caller moment p.ae o es) + count (λ w. is_some (number w)) ps ≡ length es + cond (is_some o) (count (λ w. is_some (number w)) ps + 1) (count (λ w. is_some (number w)) ps)
     at None = refl
     at (Some n) = omega arith
-
-pub no_longer : {A : Type 0} (caller moment : ℕ) (s : Settings) → Away A s → (es : List (Entry A)) → legal s es ≡ true → has_title_twice s.peers ≡ false → length (compacted caller moment s es) ≤ length es
-no_longer caller moment s law es l once =
-    let long = length_acks caller moment (upto s es) s.peers (compact s es) in
-    let few = few_enough s law es l once in
-    omega (arith, long, few)

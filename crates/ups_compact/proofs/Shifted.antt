@@ -31,7 +31,7 @@ use Rattle.ups_compact.proofs.Telling.{reports_same}
 use Rattle.ups_compact.proofs.Pending.{latest}
 use Rattle.ups_compact.proofs.Kept.{claim_kept, row_of_kept, watch_kept, cover_kept, held_kept, used_kept}
 use Rattle.ups_compact.proofs.KeptRoom.{legal_compacted_for, no_longer_for}
-use Rattle.ups_compact.proofs.Shifts.{drop_more, drop_twice, numbers_of, to_tell_is, pending_numbers, events_fewer, acked_shift, unacked_is}
+use Rattle.ups_compact.proofs.Shifting.{drop_more, drop_twice, numbers_of, to_tell_is, pending_numbers, events_fewer, acked_shift, unacked_is}
 
 -- A COMPACTION FOR STEPS, whatever they are, frees no UID
 pub used_compacted_for : {A : Type 0} (caller moment : ℕ) (s : Settings) (steps : List (List ℕ)) (es : List (Entry A)) (u : List ℕ) → used (compacted_for caller moment s steps es) u ≡ used es u
@@ -184,7 +184,7 @@ same_acknowledged {A} s by log x w n =
     ap (λ (b : Bool). answer_of A b (nat_le (n - shift s by log w) (acked by w))) (less_than (length (events s by w)) (length (events s log w)) (shift s by log w) n (n - shift s by log w) (events_shift s by log x w) refl)
     ∙ ap (λ (b : Bool). answer_of A (nat_lt (length (events s log w)) n) b) (no_more_than (acked by w) (acked log w) (shift s by log w) n (n - shift s by log w) (x.acked_too w) refl)
 
-goes_further : (A : Type 0) (made was n : ℕ) → accepts {A = A} (acknowledged made was n) ≡ true → was < n
+pub goes_further : (A : Type 0) (made was n : ℕ) → accepts {A = A} (acknowledged made was n) ≡ true → was < n
 goes_further A made was n h = at (nat_lt made n) (nat_le n was) refl h
   where
     at : (b c : Bool) → nat_le n was ≡ c → accepts (answer_of A b c) ≡ true → was < n

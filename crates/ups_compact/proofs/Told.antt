@@ -3,8 +3,7 @@ use Rattle.std.proofs.Common.{◌≡◌, ℕ, ◌+◌, Bool, true, false, ◌||�
 use Rattle.std.specs.Prelude.{is_some}
 use Rattle.std.specs.List.{AllByRecursion}
 use Rattle.std.specs.Str.{bytes_eq}
-use Rattle.std.proofs.lemmas.List.{map-append, append-nil}
-use Rattle.std.proofs.lemmas.List.Elements.{filter-append}
+use Rattle.std.proofs.lemmas.List.{map-append}
 use Rattle.ups_dataset.specs.declared.dictionary.TheConstants.{INPUT_READINESS_STATE, PROCEDURE_STEP_PROGRESS_INFORMATION_SEQUENCE, SCHEDULED_STATION_NAME_CODE_SEQUENCE, SCHEDULED_HUMAN_PERFORMERS_SEQUENCE}
 use Rattle.ups_dataset.specs.Data.{El}
 use Rattle.ups_cycle.specs.declared.state.StepState.{StepState}
@@ -15,21 +14,15 @@ use Rattle.ups_life.specs.declared.event.EventKind.TheVariants.{StateReport, Pro
 use Rattle.ups_life.specs.declared.readiness.InputReadiness.{InputReadiness}
 use Rattle.ups_life.specs.declared.request.Request.{Request}
 use Rattle.ups_life.specs.declared.request.Request.TheVariants.{Create, Change, AskCancel, Set, Subscribe, Unsubscribe, Suspend, Ack, Sweep, Reserve}
-use Rattle.ups_life.specs.declared.watching.Subscription.{Subscription}
 use Rattle.ups_life.specs.declared.watching.Target.TheVariants.{Single, Global, Filtered}
 use Rattle.ups_life.specs.Settings.{Settings}
 use Rattle.ups_life.specs.Steps.{is_on, state_then, state, row}
 use Rattle.ups_life.specs.Readiness.{readiness_in, is_same_readiness}
-use Rattle.ups_life.specs.Watching.{takes_in, cover, watch, held, is_among}
+use Rattle.ups_life.specs.Watching.{cover, watch, held, is_among}
 use Rattle.ups_life.specs.Events.{readiness, report, as_it_is, only_if, has, cancel_reports, set_reports, told_of, if_watched, reports_of, numbered, events}
-use Rattle.ups_life.specs.History.{legal}
 use Rattle.ups_life.proofs.Texts.{same_text}
-use Rattle.ups_life.proofs.Accepted.{legal_tail}
-use Rattle.ups_compact.specs.Compacting.{is_about, is_left, left, reported, told_to, told_of_steps}
-use Rattle.ups_compact.proofs.Holding.{state_left, row_next, row_left}
-use Rattle.ups_compact.proofs.Covering.{cover_left}
-use Rattle.ups_compact.proofs.Watching.{watch_left, watch_next}
-use Rattle.ups_compact.proofs.Staying.{Away, Stays, stays_before, held_left}
+use Rattle.ups_compact.specs.Compacting.{is_about, is_left, reported, told_to, told_of_steps}
+use Rattle.ups_compact.proofs.Holding.{row_next}
 
 -- numbers are no part of what is told
 unnumbered : (n place : ℕ) (xs : List Report) → map reported (numbered n place xs) ≡ xs
@@ -174,42 +167,6 @@ where_none steps false ys h = refl
 
 -- THE REPORTS OF AN ENTRY
 
-same_watched : {A : Type 0} (s : Settings) (steps : List (List ℕ)) (e : Entry A) (es : List (Entry A)) (w : List ℕ) (step : Option (List ℕ)) (r : Request A) → is_about steps step ≡ true
-    → if_watched s (left steps es) e w step (λ u. told_of s (left steps es) e u r) ≡ if_watched s es e w step (λ u. told_of s es e u r)
-same_watched s steps e es w None r a = refl
-same_watched {A} s steps e es w (Some u) r a =
-    let p = state_left steps u a es in
-    let q = row_left s steps u a es in
-    ap (λ (x : Option Subscription). cond (is_some x) (told_of s (left steps es) e u r) (only_if (is_some (watch s (e ∷ left steps es) w u)) (as_it_is s (e ∷ left steps es) u))) (watch_left s steps w u a es)
-    ∙ (ap (λ (x : List Report). cond (is_some (watch s es w u)) x (only_if (is_some (watch s (e ∷ left steps es) w u)) (as_it_is s (e ∷ left steps es) u))) (same_told s u e (left steps es) es r p q)
-    ∙ (ap (λ (x : Option Subscription). cond (is_some (watch s es w u)) (told_of s es e u r) (only_if (is_some x) (as_it_is s (e ∷ left steps es) u))) (watch_next s steps w u a e es)
-    ∙ ap (λ (x : Report). cond (is_some (watch s es w u)) (told_of s es e u r) (only_if (is_some (watch s (e ∷ es) w u)) x))
-    (same_report s u (e ∷ left steps es) (e ∷ es) (state_next u e (left steps es) es p) (row_next s u e (left steps es) es p q))))
-
-kept_reports : {A : Type 0} (s : Settings) → Away A s → (steps : List (List ℕ)) (e : Entry A) (es : List (Entry A)) (w : List ℕ) (r : Request A) → legal s es ≡ true → Stays s steps es → is_left steps r ≡ true
-    → reports_of s (left steps es) e w r ≡ told_of_steps steps (reports_of s es e w r)
-kept_reports {A} s law steps e es w (Create v set) l stays a =
-    let p = state_left steps v a es in
-    let q = row_left s steps v a es in
-    ap (λ (x : Option Subscription). only_if (is_some x) (as_it_is s (e ∷ left steps es) v))
-    (cover_left steps s.peers w (row s (e ∷ left steps es) v) es ∙ ap (λ (x : List El). cover s.peers es w x) (row_next s v e (left steps es) es p q))
-    ∙ (ap (λ (x : Report). only_if (is_some (cover s.peers es w (row s (e ∷ es) v))) x) (same_report s v (e ∷ left steps es) (e ∷ es) (state_next v e (left steps es) es p) (row_next s v e (left steps es) es p q))
-    ∙ sym (all_kept steps v (only_if (is_some (cover s.peers es w (row s (e ∷ es) v))) (as_it_is s (e ∷ es) v)) a (one_of v (is_some (cover s.peers es w (row s (e ∷ es) v))) (as_it_is s (e ∷ es) v) refl)))
-kept_reports {A} s law steps e es w (Change step st t) l stays a = same_watched s steps e es w step (Change step st t) a ∙ sym (watched_kept s steps es e w step (Change step st t) a)
-kept_reports {A} s law steps e es w (AskCancel step reasons) l stays a = same_watched s steps e es w step (AskCancel step reasons) a ∙ sym (watched_kept s steps es e w step (AskCancel step reasons) a)
-kept_reports {A} s law steps e es w (Set step t set) l stays a = same_watched s steps e es w step (Set step t set) a ∙ sym (watched_kept s steps es e w step (Set step t set) a)
-kept_reports {A} s law steps e es w (Subscribe target receiver lock) l stays a =
-    where_so steps (bytes_eq receiver w) (map (as_it_is s (left steps es)) (filter (λ u. takes_in target u (row s (left steps es) u)) (held s (left steps es)))) (map (as_it_is s es) (filter (λ u. takes_in target u (row s es u)) (held s es)))
-    (ap (λ (xs : List (List ℕ)). map (as_it_is s (left steps es)) (filter (λ u. takes_in target u (row s (left steps es) u)) xs)) (held_left s law steps es l stays)
-    ∙ taken_left steps (as_it_is s (left steps es)) (as_it_is s es) (λ u. takes_in target u (row s (left steps es) u)) (λ u. takes_in target u (row s es u)) (λ u. refl)
-    (λ u in'. same_report s u (left steps es) es (state_left steps u in' es) (row_left s steps u in' es))
-    (λ u in'. ap (λ (x : List El). takes_in target u x) (row_left s steps u in' es)) (held s es))
-kept_reports s law steps e es w (Unsubscribe place receiver) l stays a = refl
-kept_reports s law steps e es w (Suspend receiver) l stays a = refl
-kept_reports s law steps e es w (Ack upto) l stays a = refl
-kept_reports s law steps e es w Sweep l stays a = refl
-kept_reports s law steps e es w (Reserve step) l stays a = refl
-
 pub gone_reports : {A : Type 0} (s : Settings) (steps : List (List ℕ)) (e : Entry A) (es : List (Entry A)) (w : List ℕ) (r : Request A) → is_left steps r ≡ false → told_of_steps steps (reports_of s es e w r) ≡ []
 gone_reports s steps e es w (Create v set) a =
     all_gone steps v (only_if (is_some (cover s.peers es w (row s (e ∷ es) v))) (as_it_is s (e ∷ es) v)) a (one_of v (is_some (cover s.peers es w (row s (e ∷ es) v))) (as_it_is s (e ∷ es) v) refl)
@@ -226,22 +183,3 @@ gone_reports s steps e es w (Suspend receiver) a = refl
 gone_reports s steps e es w (Ack upto) a = refl
 gone_reports s steps e es w Sweep a = refl
 gone_reports s steps e es w (Reserve step) a = refl
-
-told_case : {A : Type 0} (s : Settings) → Away A s → (steps : List (List ℕ)) (e : Entry A) (es : List (Entry A)) (w : List ℕ) → legal s es ≡ true → Stays s steps es → told_to s (left steps es) w ≡ told_of_steps steps (told_to s es w)
-    → (b : Bool) → is_left steps e.request ≡ b → told_to s (cond b (e ∷ left steps es) (left steps es)) w ≡ told_of_steps steps (told_to s (e ∷ es) w)
-told_case {A} s law steps e es w l stays h true a =
-    told_next s e (left steps es) w
-    ∙ (ap (λ (xs : List Report). xs ++ reports_of s (left steps es) e w e.request) h
-    ∙ (ap (λ (ys : List Report). told_of_steps steps (told_to s es w) ++ ys) (kept_reports s law steps e es w e.request l stays a)
-    ∙ (sym (filter-append (λ (x : Report). is_among x.step steps) (told_to s es w) (reports_of s es e w e.request)) ∙ ap (told_of_steps steps) (sym (told_next s e es w)))))
-told_case {A} s law steps e es w l stays h false a =
-    h
-    ∙ (sym (append-nil (told_of_steps steps (told_to s es w)))
-    ∙ (ap (λ (ys : List Report). told_of_steps steps (told_to s es w) ++ ys) (sym (gone_reports s steps e es w e.request a))
-    ∙ (sym (filter-append (λ (x : Report). is_among x.step steps) (told_to s es w) (reports_of s es e w e.request)) ∙ ap (told_of_steps steps) (sym (told_next s e es w)))))
-
-pub told_left : {A : Type 0} (s : Settings) → Away A s → (steps : List (List ℕ)) (es : List (Entry A)) (w : List ℕ) → legal s es ≡ true → Stays s steps es → told_to s (left steps es) w ≡ told_of_steps steps (told_to s es w)
-told_left s law steps [] w l stays = refl
-told_left s law steps (e ∷ es) w l stays =
-    let before = stays_before s law steps e es l stays in
-    told_case s law steps e es w (legal_tail s e es l) before (told_left s law steps es w (legal_tail s e es l) before) (is_left steps e.request) refl

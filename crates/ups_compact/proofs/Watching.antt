@@ -94,6 +94,3 @@ module _ {A : Type 0} (s : Settings) (steps : List (List ℕ)) (w u : List ℕ) 
 
   pub watch_next : (e : Entry A) (es : List (Entry A)) → watch s (e ∷ left steps es) w u ≡ watch s (e ∷ es) w u
   watch_next e es = watch_more s w u e (left steps es) es (state_left steps u in' es) (row_left s steps u in' es) (λ x. cover_left steps s.peers w x es) (watch_left es)
-
-pub due_left : {A : Type 0} (s : Settings) (steps : List (List ℕ)) (u : List ℕ) (moment : ℕ) → is_among u steps ≡ true → (es : List (Entry A)) → is_due s (left steps es) moment u ≡ is_due s es moment u
-due_left {A} s steps u moment in' es = said_left steps (λ (xs : List (Entry A)). is_due s xs moment u) (due_plain s steps u moment in') es

@@ -1,6 +1,6 @@
 -- Worked rows: a short day, what is left of it when it is compacted, and what is pending before and after, computed by the check.
 use Rattle.std.proofs.Common.{◌≡◌, ℕ, true, false, List, [], ◌∷◌, map, refl}
-use Rattle.std.specs.Prelude.{Some, None, codes, pos}
+use Rattle.std.specs.Prelude.{Some, codes, pos}
 use Rattle.ups_dataset.specs.declared.tag.Tag.{Tag}
 use Rattle.ups_dataset.specs.declared.vr.Vr.{Vr}
 use Rattle.ups_dataset.specs.declared.vr.Vr.TheVariants.{Cs, Dt, Lo, Sq}
@@ -9,7 +9,6 @@ use Rattle.ups_dataset.specs.Data.{El, bytes, items, no_items}
 use Rattle.ups_match.specs.Moments.{moment, day_number, days_of_month, field, is_date, is_time, date_number, second_of_day, microsecond_of, offset_of, signed_offset, stamp, begun, date_stamp, time_stamp, offset_stamp, year_on, month_on}
 use Rattle.ups_life.specs.declared.entry.Entry.{Entry}
 use Rattle.ups_life.specs.declared.event.Event.{Event}
-use Rattle.ups_life.specs.declared.event.Report.{Report}
 use Rattle.ups_life.specs.declared.event.EventKind.{EventKind}
 use Rattle.ups_life.specs.declared.event.EventKind.TheVariants.{StateReport, ProgressReport}
 use Rattle.ups_life.specs.declared.readiness.InputReadiness.TheVariants.{Ready}
@@ -20,13 +19,13 @@ use Rattle.ups_life.specs.declared.request.Transaction.TheVariants.{Proper}
 use Rattle.ups_life.specs.declared.watching.Target.TheVariants.{Global}
 use Rattle.ups_cycle.specs.declared.state.StepState.{StepState}
 use Rattle.ups_cycle.specs.declared.state.StepState.TheVariants.{Scheduled, InProgress, Canceled}
-use Rattle.ups_cycle.specs.declared.status.Status.TheVariants.{Success, DuplicateSopInstance}
+use Rattle.ups_cycle.specs.declared.status.Status.TheVariants.{DuplicateSopInstance}
 use Rattle.ups_life.specs.Settings.{Settings}
-use Rattle.ups_life.specs.Steps.{cancellation, holder}
+use Rattle.ups_life.specs.Steps.{cancellation}
 use Rattle.ups_life.specs.Watching.{held}
 use Rattle.ups_life.specs.Events.{pending}
 use Rattle.ups_life.specs.History.{reply, legal}
-use Rattle.ups_compact.specs.Compacting.{compact, to_tell, upto, compacted, left_for, compacted_for, steps_needed}
+use Rattle.ups_compact.specs.Compacting.{left_for, compacted_for, steps_needed}
 use Rattle.ups_compact.specs.Shifting.{shift, shifted}
 use Rattle.ups_compact.specs.Course.{Turn, Entered, Compacted, log_of, kept_of, is_course}
 
@@ -105,59 +104,15 @@ two_steps_are_held : held site day ≡ u1 ∷ u3 ∷ []
 unfolding cancellation stamp begun date_stamp time_stamp offset_stamp year_on month_on
 two_steps_are_held = refl
 
--- no word of u2, no sweep and no acknowledgement
-its_compact_history : compact site day ≡ created u3 150 ∷ gone_on ∷ claimed ∷ created u1 10 ∷ subscribed ∷ []
-unfolding cancellation stamp begun date_stamp time_stamp offset_stamp year_on month_on
-its_compact_history = refl
-
 abbrev event : ℕ → ℕ → EventKind → List ℕ → StepState → Event
 event number place kind u state = record { number = number; entry = place; kind = kind; step = u; state = state; readiness = Some Ready }
 
--- what is pending of the day, and what its compact history has pending by itself: also what was acknowledged
+-- what is pending of the day
 what_is_pending : pending site day w1 ≡ event 4 5 ProgressReport u1 InProgress ∷ event 6 6 StateReport u2 Canceled ∷ event 7 7 StateReport u3 Scheduled ∷ []
 unfolding cancellation stamp begun date_stamp time_stamp offset_stamp year_on month_on
 what_is_pending = refl
 
-what_is_pending_anew : pending site (compact site day) w1 ≡ event 2 2 StateReport u1 InProgress ∷ event 3 3 ProgressReport u1 InProgress ∷ event 4 4 StateReport u3 Scheduled ∷ []
-unfolding cancellation stamp begun date_stamp time_stamp offset_stamp year_on month_on
-what_is_pending_anew = refl
-
--- of the three the last two are still to be told: so the number of the first is acknowledged, and nothing for the second watcher
-the_numbers : (upto site day w1 ≡ Some 2) × (upto site day w2 ≡ None)
-unfolding cancellation stamp begun date_stamp time_stamp offset_stamp year_on month_on
-the_numbers = (refl, refl)
-
--- THE COMPACTED DAY, by caller 9 at moment 300
-abbrev short_day : List Call
-short_day =
-    record { caller = 9; ae = w1; moment = 300; request = Ack 2 }
-    ∷ created u3 150
-    ∷ gone_on
-    ∷ claimed
-    ∷ created u1 10
-    ∷ subscribed
-    ∷ []
-
-the_compacted_day : compacted 9 300 site day ≡ short_day
-unfolding cancellation stamp begun date_stamp time_stamp offset_stamp year_on month_on
-the_compacted_day = refl
-
-abbrev reports : EventKind → List ℕ → StepState → Report
-reports kind u state = record { kind = kind; step = u; state = state; readiness = Some Ready }
-
--- what is pending is the same, but for what is about u2
-what_is_still_told : to_tell site short_day w1 ≡ reports ProgressReport u1 InProgress ∷ reports StateReport u3 Scheduled ∷ []
-what_is_still_told = refl
-
-what_was_to_be_told : to_tell site day w1 ≡ reports ProgressReport u1 InProgress ∷ reports StateReport u2 Canceled ∷ reports StateReport u3 Scheduled ∷ []
-unfolding cancellation stamp begun date_stamp time_stamp offset_stamp year_on month_on
-what_was_to_be_told = refl
-
--- u1 has its holder
-who_holds : holder short_day u1 ≡ Some (record { caller = 3; ae = codes "CAD" })
-who_holds = refl
-
--- the UID of u2 was used, and is free again: this history forgets it
+-- the UID of u2 was used
 abbrev again : Call
 again = created u2 400
 
@@ -165,11 +120,7 @@ a_used_uid : reply site day again ≡ Answered DuplicateSopInstance
 unfolding moment day_number days_of_month field is_date is_time date_number second_of_day microsecond_of offset_of signed_offset cancellation stamp begun date_stamp time_stamp offset_stamp year_on month_on
 a_used_uid = refl
 
-is_free_again : reply site short_day again ≡ Answered Success
-unfolding moment day_number days_of_month field is_date is_time date_number second_of_day microsecond_of offset_of signed_offset
-is_free_again = refl
-
--- WITH THE STEPS NEEDED: an event of u2 is pending, so u2 is one of them, and its sweep is kept; only acknowledgements go
+-- THE STEPS NEEDED: an event of u2 is pending, so u2 is one of them, and its sweep is kept; only acknowledgements go
 the_steps_needed : steps_needed site day ≡ u1 ∷ u3 ∷ u1 ∷ u2 ∷ u3 ∷ []
 unfolding cancellation stamp begun date_stamp time_stamp offset_stamp year_on month_on
 the_steps_needed = refl

@@ -1,7 +1,6 @@
 -- A history without the requests about steps that are no longer held. Histories here have their newest entry first.
-use Rattle.std.specs.Prelude.{◌≡◌, ℕ, ◌-◌, Bool, true, false, not, ◌||◌, nat_lt, List, [], ◌∷◌, ◌++◌, length, map, filter, take, Option, None, Some, if◌then◌else◌}
+use Rattle.std.specs.Prelude.{◌≡◌, ℕ, Bool, true, false, ◌||◌, nat_lt, List, [], ◌∷◌, ◌++◌, length, map, filter, take, Option, None, Some, if◌then◌else◌}
 use Rattle.std.specs.List.{AllByRecursion}
-use Rattle.std.specs.Str.{bytes_eq}
 use Rattle.ups_life.specs.declared.request.Request.{Request}
 use Rattle.ups_life.specs.declared.request.Request.TheVariants.{Create, Ack, Sweep, Reserve}
 use Rattle.ups_life.specs.declared.entry.Entry.{Entry}
@@ -10,7 +9,7 @@ use Rattle.ups_life.specs.declared.peer.Peer.{Peer}
 use Rattle.ups_life.specs.declared.event.Report.{Report}
 use Rattle.ups_life.specs.declared.event_reports.EventReport.{EventReport}
 use Rattle.ups_life.specs.Settings.{Settings}
-use Rattle.ups_life.specs.Steps.{used, named_step}
+use Rattle.ups_life.specs.Steps.{named_step}
 use Rattle.ups_life.specs.Watching.{held, is_among, is_held, is_peer, removed}
 use Rattle.ups_life.specs.Events.{events, acked, pending}
 
@@ -28,10 +27,6 @@ is_left steps request = is_about steps (named_step request)
 
 abbrev pub left : {A : Type 0} → List (List ℕ) → List (Entry A) → List (Entry A)
 left steps es = filter (λ e. is_left steps e.request) es
-
--- THE COMPACT HISTORY: the entries that are kept for the steps held
-abbrev pub compact : {A : Type 0} → Settings → List (Entry A) → List (Entry A)
-compact s es = left (held s es) es
 
 -- the report of an event, without its number
 abbrev pub reported : Event → Report
@@ -60,22 +55,6 @@ of_steps steps xs = filter (λ (x : Event). is_among x.step steps) xs
 abbrev pub events_of : {A : Type 0} → List (EventReport A) → List Event
 events_of reports = map (λ r. r.event) reports
 
--- the number of the last of these events, if there is one
-abbrev pub number_of_last : List Event → Option ℕ
-number_of_last [] = None
-number_of_last (x ∷ []) = Some x.number
-number_of_last (x ∷ y ∷ xs) = number_of_last (y ∷ xs)
-
--- The number up to which these events are known, if the last `untold` of them are still to be reported: that of the last event
--- before those, if there is one.
-abbrev pub known_up_to : ℕ → List Event → Option ℕ
-known_up_to untold xs = number_of_last (take (length xs - untold) xs)
-
--- THE NUMBER TO ACKNOWLEDGE for w after the compact history: of the events pending there, the last ones are still to be
--- reported, as many as events of steps held were pending in the whole history
-abbrev pub upto : {A : Type 0} → Settings → List (Entry A) → List ℕ → Option ℕ
-upto s es w = known_up_to (length (of_steps (held s es) (pending s es w))) (pending s (compact s es) w)
-
 -- these entries, followed by w's acknowledgement up to a number, if there is one: made by this caller, at this moment
 abbrev pub with_ack : {A : Type 0} → ℕ → ℕ → List ℕ → Option ℕ → List (Entry A) → List (Entry A)
 with_ack caller moment w None es = es
@@ -86,31 +65,10 @@ abbrev pub with_acks : {A : Type 0} → ℕ → ℕ → (List ℕ → Option ℕ
 with_acks caller moment number [] es = es
 with_acks caller moment number (p ∷ ps) es = with_acks caller moment number ps (with_ack caller moment p.ae (number p.ae) es)
 
--- THE COMPACTED HISTORY: the compact history, followed by the acknowledgement of each peer
-abbrev pub compacted : {A : Type 0} → ℕ → ℕ → Settings → List (Entry A) → List (Entry A)
-compacted caller moment s es = with_acks caller moment (upto s es) s.peers (compact s es)
-
--- the request reserves this UID
-abbrev pub reserves : {A : Type 0} → List ℕ → Request A → Bool
-reserves u (Reserve step) = bytes_eq step u
-reserves u request = false
-
--- some entry reserves this UID: it does so in the compacted history too
-abbrev pub reserved : {A : Type 0} → List (Entry A) → List ℕ → Bool
-reserved [] u = false
-reserved (e ∷ es) u = reserves u e.request || reserved es u
-
 -- two of these peers have the same title
 abbrev pub has_title_twice : List Peer → Bool
 has_title_twice [] = false
 has_title_twice (p ∷ ps) = is_peer ps p.ae || has_title_twice ps
-
--- the request is answered after a compaction as before it: it is no acknowledgement, since events have other numbers, and no
--- creation under the UID of a removed step
-abbrev pub is_answered_alike : {A : Type 0} → Settings → List (Entry A) → Request A → Bool
-is_answered_alike s es (Ack upto) = false
-is_answered_alike s es (Create step attributes) = not (used es step) || is_held s es step
-is_answered_alike s es request = true
 
 -- WHAT IS KEPT FOR MORE STEPS than those held: for removed ones too, of which a report is still to be sent (PS3.4 CC.2.4)
 

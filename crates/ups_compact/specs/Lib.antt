@@ -1,3 +1,4 @@
 pub mod Compacting
 pub mod Course
 pub mod Shifting
+pub mod Shifts

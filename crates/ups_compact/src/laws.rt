@@ -3,122 +3,22 @@
 
 ghost use Rattle.std.specs.Prelude.{◌≡◌, ◌≤◌, ◌<◌, ◌+◌, ◌||◌, ◌++◌, [], ◌∷◌, ℕ, List, Option, length, map, true, false};
 ghost use Rattle.ups_dataset.specs.declared.tag.Tag.{Tag};
-ghost use Rattle.ups_dataset.specs.Data.{El};
 ghost use Rattle.ups_match.specs.Matching.{KeySet};
 ghost use Rattle.ups_life.specs.declared.entry.Entry.{Entry};
 ghost use Rattle.ups_life.specs.declared.event.Event.{Event};
 ghost use Rattle.ups_life.specs.Settings.{Settings};
 ghost use Rattle.ups_life.specs.Claims.{claims};
-ghost use Rattle.ups_life.specs.Steps.{past, used, row_of, holder};
-ghost use Rattle.ups_life.specs.Watching.{is_peer, cover, held, watch, is_due, is_held};
-ghost use Rattle.ups_life.specs.Filters.{filter_now};
+ghost use Rattle.ups_life.specs.Steps.{past, used};
+ghost use Rattle.ups_life.specs.Watching.{held};
 ghost use Rattle.ups_life.specs.Events.{events, acked, pending};
 ghost use Rattle.ups_life.specs.History.{reply, decided, legal, got};
 ghost use Rattle.ups_life.specs.Worklist.{worklist};
-ghost use Rattle.ups_compact.specs.Compacting.{compact, told_to, told_of_steps, to_tell, compacted, reserved, has_title_twice, is_answered_alike, compacted_for, steps_needed, LosesNothing};
+ghost use Rattle.ups_compact.specs.Compacting.{to_tell, has_title_twice, compacted_for, steps_needed, LosesNothing};
 ghost use Rattle.ups_compact.specs.Course.{Turn, log_of, kept_of, is_course, with_limit, IsLeftOf};
 ghost use Rattle.ups_compact.specs.Shifting.{shift, raised, shifted, lifted, followed, IsShifted};
 
 use std::alloc::Allocator;
 use ups_life::laws::a_removed_step_stays_away;
-
-/// Does nothing at run time: its contract tells a proof that a compact history says of each held step what the history
-/// said: its attributes and its state, who holds it, when it became final, who watches it and how, and so whether a
-/// sweep removes it.
-pub fn what_is_held_of_a_step_stays<A: Allocator + Copy>()
-    ensures row { (s : Settings) → (es : List (Entry A)) → (u : List ℕ) → is_held s es u ≡ true → row_of s (compact s es) u ≡ row_of s es u }
-    ensures holder { (s : Settings) → (es : List (Entry A)) → (u : List ℕ) → is_held s es u ≡ true → holder (compact s es) u ≡ holder es u }
-    ensures watch { (s : Settings) → (es : List (Entry A)) → (w u : List ℕ) → is_held s es u ≡ true → watch s (compact s es) w u ≡ watch s es w u }
-    ensures due { (s : Settings) → (es : List (Entry A)) → (u : List ℕ) → (moment : ℕ) → is_held s es u ≡ true → is_due s (compact s es) moment u ≡ is_due s es moment u }
-{}
-
-/// Does nothing at run time: its contract tells a proof that each global subscription stays as it was, for the steps
-/// that are yet to be created.
-pub fn global_subscriptions_stay<A: Allocator + Copy>()
-    ensures cover { (s : Settings) → (es : List (Entry A)) → (w : List ℕ) → (attributes : List El) → cover s.peers (compact s es) w attributes ≡ cover s.peers es w attributes }
-    ensures filter { (s : Settings) → (es : List (Entry A)) → (w : List ℕ) → filter_now (compact s es) w ≡ filter_now es w }
-{}
-
-/// Does nothing at run time: its contract tells a proof that the held steps are the same, in the same order.
-pub fn the_steps_held_stay<A: Allocator + Copy>()
-    ensures { (s : Settings) → (es : List (Entry A)) → legal s es ≡ true → held s (compact s es) ≡ held s es }
-{
-    a_removed_step_stays_away::<A>();
-}
-
-/// Does nothing at run time: its contract tells a proof that a compact history is legal: each of its entries is
-/// accepted after those before it.
-pub fn a_compact_history_is_legal<A: Allocator + Copy>()
-    ensures { (s : Settings) → (es : List (Entry A)) → legal s es ≡ true → legal s (compact s es) ≡ true }
-{
-    a_removed_step_stays_away::<A>();
-}
-
-/// Does nothing at run time: its contract tells a proof that a compact history tells each watcher what the history told
-/// of the held steps, in the same order, and nothing of any other step.
-pub fn of_the_steps_held_the_same_is_told<A: Allocator + Copy>()
-    ensures { (s : Settings) → (es : List (Entry A)) → (w : List ℕ) → legal s es ≡ true → told_to s (compact s es) w ≡ told_of_steps (held s es) (told_to s es w) }
-{
-    a_removed_step_stays_away::<A>();
-}
-
-/// Does nothing at run time: its contract tells a proof that acknowledgments after a compact history change nothing
-/// about held steps, subscriptions and the steps that a sweep removes. With them it still says of each held step, and
-/// of each global subscription, what the history said.
-pub fn what_is_held_stays_behind_acknowledgements<A: Allocator + Copy>()
-    ensures row { (caller moment : ℕ) → (s : Settings) → (es : List (Entry A)) → (u : List ℕ) → is_held s es u ≡ true → row_of s (compacted caller moment s es) u ≡ row_of s es u }
-    ensures holder { (caller moment : ℕ) → (s : Settings) → (es : List (Entry A)) → (u : List ℕ) → is_held s es u ≡ true → holder (compacted caller moment s es) u ≡ holder es u }
-    ensures watch { (caller moment : ℕ) → (s : Settings) → (es : List (Entry A)) → (w u : List ℕ) → is_held s es u ≡ true → watch s (compacted caller moment s es) w u ≡ watch s es w u }
-    ensures due { (caller moment : ℕ) → (s : Settings) → (es : List (Entry A)) → (u : List ℕ) → (now : ℕ) → is_held s es u ≡ true → is_due s (compacted caller moment s es) now u ≡ is_due s es now u }
-    ensures cover { (caller moment : ℕ) → (s : Settings) → (es : List (Entry A)) → (w : List ℕ) → (attributes : List El) → cover s.peers (compacted caller moment s es) w attributes ≡ cover s.peers es w attributes }
-    ensures filter { (caller moment : ℕ) → (s : Settings) → (es : List (Entry A)) → (w : List ℕ) → filter_now (compacted caller moment s es) w ≡ filter_now es w }
-{}
-
-/// Does nothing at run time: its contract tells a proof that, with acknowledgments after a compact history, the held
-/// steps are the same, in the same order, and so is what was told of them.
-pub fn the_steps_held_stay_behind_acknowledgements<A: Allocator + Copy>()
-    ensures held { (caller moment : ℕ) → (s : Settings) → (es : List (Entry A)) → legal s es ≡ true → held s (compacted caller moment s es) ≡ held s es }
-    ensures told { (caller moment : ℕ) → (s : Settings) → (es : List (Entry A)) → (w : List ℕ) → legal s es ≡ true → told_to s (compacted caller moment s es) w ≡ told_of_steps (held s es) (told_to s es w) }
-{
-    a_removed_step_stays_away::<A>();
-}
-
-/// Does nothing at run time: its contract tells a proof that a compact history with acknowledgments is legal too, and
-/// no longer than the history was: each of them takes the place of one that the peer had made.
-pub fn a_compacted_history_is_legal<A: Allocator + Copy>()
-    ensures length { (caller moment : ℕ) → (s : Settings) → (es : List (Entry A)) → legal s es ≡ true → has_title_twice s.peers ≡ false → length (compacted caller moment s es) ≤ length es }
-    ensures legal { (caller moment : ℕ) → (s : Settings) → (es : List (Entry A)) → legal s es ≡ true → has_title_twice s.peers ≡ false → legal s (compacted caller moment s es) ≡ true }
-{
-    a_removed_step_stays_away::<A>();
-}
-
-/// Does nothing at run time: its contract tells a proof that no watcher is told again what it has acknowledged of the
-/// held steps, and none loses what it has not: the events pending for a peer after a compact history with
-/// acknowledgments are, without numbers, those of the held steps that were pending for it, in order.
-pub fn what_is_pending_stays<A: Allocator + Copy>()
-    ensures { (caller moment : ℕ) → (s : Settings) → (es : List (Entry A)) → (w : List ℕ) → legal s es ≡ true → has_title_twice s.peers ≡ false → is_peer s.peers w ≡ true
-        → to_tell s (compacted caller moment s es) w ≡ told_of_steps (held s es) (to_tell s es w) }
-{
-    a_removed_step_stays_away::<A>();
-}
-
-/// Does nothing at run time: its contract tells a proof that, if the history was not full, each request is answered
-/// after a compaction as before it, except acknowledgments, since events have other numbers, and the creation of a step
-/// under the UID of a removed one. The answers to an N-GET and a query are the same (PS3.4 CC.2.7, CC.2.8).
-pub fn a_request_is_answered_as_before<A: Allocator + Copy>()
-    ensures reply { (caller moment : ℕ) → (s : Settings) → (es : List (Entry A)) → (e : Entry A) → legal s es ≡ true → has_title_twice s.peers ≡ false → length es < s.limit
-        → is_answered_alike s es e.request ≡ true → reply s (compacted caller moment s es) e ≡ reply s es e }
-    ensures got { (caller moment : ℕ) → (s : Settings) → (es : List (Entry A)) → (step : Option (List ℕ)) → (tags : List Tag) → legal s es ≡ true → got s (compacted caller moment s es) step tags ≡ got s es step tags }
-    ensures found { (caller moment : ℕ) → (s : Settings) → (es : List (Entry A)) → (keys : KeySet) → legal s es ≡ true → worklist s (compacted caller moment s es) keys ≡ worklist s es keys }
-{
-    a_removed_step_stays_away::<A>();
-}
-
-/// Does nothing at run time: its contract tells a proof that this compaction forgets removed steps: a UID is used if it
-/// is that of a held step, or if an entry reserves it. That of each other removed step is free again.
-pub fn the_uids_of_removed_steps_are_free_again<A: Allocator + Copy>()
-    ensures { (caller moment : ℕ) → (s : Settings) → (es : List (Entry A)) → (u : List ℕ) → used (compacted caller moment s es) u ≡ (is_held s es u || reserved es u) }
-{}
 
 /// Does nothing at run time: its contract tells a proof that a history may be compacted for more steps than those held.
 /// If they are all that are held and all of which an event is pending for a peer, removed or not, nothing is lost: the
@@ -225,4 +125,25 @@ pub fn what_is_left_of_a_log_stands_for_it<A: Allocator + Copy>()
     ensures legal { (s : Settings) → (by log : List (Entry A)) → IsLeftOf s by log → legal s (past by) ≡ true }
     ensures stands { (s : Settings) → (by log : List (Entry A)) → has_title_twice s.peers ≡ false → IsLeftOf s by log → IsShifted s (past by) (past log) }
     ensures legal_with_room { (s : Settings) → (by log : List (Entry A)) → (limit : ℕ) → has_title_twice s.peers ≡ false → IsLeftOf s by log → length log ≤ limit → legal (with_limit limit s) (past log) ≡ true }
+{}
+
+/// Does nothing at run time: its contract tells a proof that what is left of a log is left of it too with each later
+/// entry that the log accepts, oldest entry first, if the number of an acknowledgement is made less by the shift, which
+/// stays as it was: that at the beginning is the one for all later entries (PS3.4 CC.2.4).
+pub fn what_is_left_goes_on_with_its_log<A: Allocator + Copy>()
+    ensures next { (s : Settings) → (by log : List (Entry A)) → (e : Entry A) → has_title_twice s.peers ≡ false → IsLeftOf s by log → legal s (past (log ++ e ∷ [])) ≡ true
+        → IsLeftOf s (by ++ shifted s (past by) (past log) e ∷ []) (log ++ e ∷ []) }
+    ensures shift { (s : Settings) → (by log : List (Entry A)) → (e : Entry A) → (w : List ℕ) → has_title_twice s.peers ≡ false → IsLeftOf s by log → legal s (past (log ++ e ∷ [])) ≡ true
+        → shift s (past (by ++ shifted s (past by) (past log) e ∷ [])) (past (log ++ e ∷ [])) w ≡ shift s (past by) (past log) w }
+    ensures ever { (s : Settings) → (by log later : List (Entry A)) → has_title_twice s.peers ≡ false → IsLeftOf s by log → legal s (past (log ++ later)) ≡ true
+        → IsLeftOf s (by ++ map (shifted s (past by) (past log)) later) (log ++ later) }
+    ensures ever_shift { (s : Settings) → (by log later : List (Entry A)) → (w : List ℕ) → has_title_twice s.peers ≡ false → IsLeftOf s by log → legal s (past (log ++ later)) ≡ true
+        → shift s (past (by ++ map (shifted s (past by) (past log)) later)) (past (log ++ later)) w ≡ shift s (past by) (past log) w }
+{}
+
+/// Does nothing at run time: its contract tells a proof that a history has no shift of its own, and that shifts add up:
+/// if a history stands for another that stands for a log, its shift to the log is the sum of both.
+pub fn shifts_add_up<A: Allocator + Copy>()
+    ensures none { (s : Settings) → (es : List (Entry A)) → (w : List ℕ) → shift s es es w ≡ 0 }
+    ensures both { (s : Settings) → (a b c : List (Entry A)) → (w : List ℕ) → IsShifted s a b → IsShifted s b c → shift s a c w ≡ shift s a b w + shift s b c w }
 {}

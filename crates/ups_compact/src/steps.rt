@@ -1,15 +1,15 @@
 //! The steps that a compact history keeps.
 
-ghost use Rattle.std.specs.Prelude.{◌≡◌, ◌||◌, ℕ, List, length, filter, IfOk, OnOk};
+ghost use Rattle.std.specs.Prelude.{◌≡◌, ◌||◌, ℕ, List, length, IfOk, OnOk};
 ghost use Rattle.std.specs.Str.{bytes_eq};
 ghost use Rattle.ups_match.specs.Uids.{has_uid};
 ghost use Rattle.ups_life.specs.Watching.{is_among};
-ghost use Rattle.ups_compact.specs.Compacting.{is_left, left, of_steps, events_of};
+ghost use Rattle.ups_compact.specs.Compacting.{is_left, left};
 
 use std::alloc::{AllocError, Allocator};
 use std::collections::BTreeSet;
 use std::marker::Model;
-use ups_life::{Entry, Event, EventReport, Request, StepUid};
+use ups_life::{Entry, Request, StepUid};
 
 /// The steps that a compact history keeps, with their UIDs in order, so that one is found without going through all of
 /// them. A contract sees the list of the steps.
@@ -70,14 +70,6 @@ impl<A: Allocator + Copy> KeptSteps<A> {
         }
     }
 
-    /// Removes from a list of entries those that do not stay in a compact history. The others keep their order. It
-    /// takes no memory.
-    pub fn retain_left(&self, entries: &mut Vec<Entry<A>, A>)
-        ensures { entries.new.items ≡ left self.now entries.old.items }
-    {
-        entries.retain(|entry| self.is_left(&entry.request));
-    }
-
     /// Returns the number of these entries that stay in a compact history.
     pub fn count_left(&self, entries: &[Entry<A>]) -> usize
         ensures { result ≡ length (left self.now entries.now) }
@@ -87,31 +79,6 @@ impl<A: Allocator + Copy> KeptSteps<A> {
             .filter(|entry| self.is_left(&entry.request))
             .count()
     }
-
-    /// Returns the number of these events that are of one of the steps: of those pending for a watcher, how many are
-    /// still to be told.
-    pub fn count_events(&self, events: &[Event]) -> usize
-        ensures { result ≡ length (of_steps self.now events.now) }
-    {
-        events.iter().filter(|event| self.has(event.step)).count()
-    }
-
-    /// Returns the number of these event reports, with which a manager replies, that are of one of the steps.
-    pub fn count_reports(&self, reports: &[EventReport<A>]) -> usize
-        ensures { result ≡ length (of_steps self.now (events_of reports.now)) }
-    {
-        count_of(self, reports)
-    }
-}
-
-/// Returns the number of these event reports that are of one of the steps.
-fn count_of<A: Allocator + Copy>(kept: &KeptSteps<A>, reports: &[EventReport<A>]) -> usize
-    ensures { result ≡ length (filter (λ report. is_among report.event.step kept.now) reports.now) }
-{
-    reports
-        .iter()
-        .filter(|report| kept.has(report.event.step))
-        .count()
 }
 
 /// Returns the UIDs of steps, in order.

@@ -11,7 +11,7 @@ use Rattle.ups_service.specs.Law.{is_legal}
 use Rattle.ups_compact.specs.Compacting.{left, left_for, above_zero, upto_for, steps_needed, with_acks, compacted_for}
 use Rattle.ups_compact.proofs.Needed.{needed_lose_nothing}
 use Rattle.ups_compact.proofs.Ordered.{past_left}
-use Rattle.ups_compact.proofs.Shifts.{number_behind}
+use Rattle.ups_compact.proofs.Shifting.{number_behind}
 use Rattle.ups_restore.specs.Compacting.{unacknowledged, known_behind, acks}
 use Rattle.ups_restore.proofs.Acks.{past_acks}
 

@@ -1,3 +1,4 @@
 pub mod Compacting
 pub mod Leaving
+pub mod Lessening
 pub mod Replaying

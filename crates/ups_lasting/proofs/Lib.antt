@@ -1,0 +1,11 @@
+pub mod Appending
+mod Carried
+mod Drafted
+mod Exchanged
+mod Finished
+mod Followed
+mod Fronts
+mod Slices
+pub mod Stages
+pub mod Standing
+mod Surveyed

@@ -1,0 +1,42 @@
+-- What a slice does that puts the drafts in the place of the records, once nothing is left to draft.
+use Rattle.std.specs.Prelude.{◌≡◌, ◌⊎◌, Bool, true, false, List, Result, Ok, Err}
+use Rattle.std.specs.Global.{Global}
+use Rattle.ups_life.specs.Settings.{Settings}
+use Rattle.ups_journal.specs.declared.record.Record.{Record}
+use Rattle.ups_compact.specs.Shifts.{less_by}
+use Rattle.ups_ledger.specs.declared.fault.LedgerFault.{LedgerFault}
+use Rattle.ups_lasting.specs.declared.draft_ledger.DraftLedger.{Ghosts}
+use Rattle.ups_lasting.specs.declared.stage.Follow.{Follow}
+use Rattle.ups_lasting.specs.Slices.{Stays}
+use Rattle.ups_lasting.specs.Stages.{IsFollowed, StandsBy}
+use Rattle.ups_lasting.specs.Standing.{firsts}
+
+module _ {L : Type 0} (g : Ghosts L) where
+  -- these records stand for those of the ledger, if what is known of the drafts holds
+  abbrev pub StandsIf : L → Follow → List (Record Global) → Type 0
+  StandsIf old f rs = (s : Settings) → IsFollowed s (g.kept old) f → g.drafts old ≡ firsts f.drafts.items → StandsBy s (g.kept old) rs (less_by f.shifts)
+
+  -- more is drafted
+  pub record Drafts (old new : L) (f h : Follow) : Type 0 where
+    pub stays : Stays g old new
+    pub followed : g.is_sound new → (s : Settings) → IsFollowed s (g.kept old) f → IsFollowed s (g.kept old) h
+    pub put : g.is_sound new → g.drafts old ≡ firsts f.drafts.items → g.drafts new ≡ firsts h.drafts.items
+
+  -- the drafts are the records
+  pub record HasExchanged (old new : L) (f h : Follow) : Type 0 where
+    pub kept : g.is_sound new → g.drafts old ≡ firsts f.drafts.items → g.kept new ≡ firsts h.drafts.items
+    pub stands : g.is_sound new → StandsIf old f (firsts h.drafts.items)
+    pub shifts : h.shifts ≡ f.shifts
+    pub left : g.is_first new → (rs : List (Record Global)) → g.recovers new rs → g.is_sound new × (rs ≡ g.kept new)
+
+  -- the one, the other, or neither
+  abbrev pub Follows : L → L → Follow → Follow → Result Bool LedgerFault → Type 0
+  Follows old new f h (Ok true) = HasExchanged old new f h
+  Follows old new f h (Ok false) = Drafts old new f h
+  Follows old new f h (Err fault) = g.is_sound new → g.kept new ≡ g.kept old
+
+  -- no crash leaves other records than it could leave before, or the same, or some that stand for them
+  pub record StaysOrFollows (old new : L) (f : Follow) : Type 0 where
+    pub sound : g.is_sound new → g.is_sound old
+    pub first : g.is_first new → g.is_first old
+    pub crash : g.is_first new → (rs : List (Record Global)) → g.recovers new rs → g.recovers old rs ⊎ (g.is_sound old × ((rs ≡ g.kept old) ⊎ StandsIf old f rs))

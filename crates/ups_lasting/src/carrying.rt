@@ -1,0 +1,106 @@
+//! Reading the records of a ledger once more, and drafting those that are kept.
+
+ghost use Rattle.std.specs.Prelude.{◌≡◌, ◌≤◌, ◌++◌, [], true, List, All, map, length, IfOk, OnOk};
+ghost use Rattle.std.specs.Global.{Global};
+ghost use Rattle.ups_life.specs.declared.entry.Entry.{Entry};
+ghost use Rattle.ups_life.specs.Settings.{Settings};
+ghost use Rattle.ups_life.specs.Steps.{past};
+ghost use Rattle.ups_journal.specs.declared.record.Record.{Record};
+ghost use Rattle.ups_journal.specs.Columns.{recorded};
+ghost use Rattle.ups_journal.specs.Writable.{IsWritableEntry};
+ghost use Rattle.ups_service.specs.Law.{is_legal};
+ghost use Rattle.ups_compact.specs.Compacting.{left_for};
+ghost use Rattle.ups_lasting.specs.Slices.{Stays};
+ghost use Rattle.ups_lasting.specs.Stages.{IsSurveyed, IsCarried};
+ghost use Rattle.ups_lasting.specs.Standing.{firsts};
+
+use crate::draft_ledger::DraftLedger;
+use crate::drafting::draft_on;
+use crate::stage::{Carriage, SLICE};
+use crate::surveying::emptied;
+use http_server::Log;
+use std::alloc::Global;
+use ups_compact::KeptSteps;
+use ups_journal::Record;
+use ups_ledger::LedgerFault;
+use ups_manager::Manager;
+use ups_restore::{carry_record, steps_needed};
+
+/// Returns the beginning of the second reading: no record was read once more.
+///
+/// Errors: Full.
+pub(crate) fn begin_carriage(alloc: Global, whole: Manager<Global>) -> Result<Carriage, LedgerFault>
+    ensures carried { IfOk result (λ c. (s : Settings) → (content : List (Record Global)) → IsSurveyed s content whole → IsCarried s content c) }
+    ensures drafts { IfOk result (λ c. firsts c.drafts.items ≡ []) }
+{
+    let Ok(steps) = steps_needed(alloc, &whole) else {
+        return Err(LedgerFault::Full);
+    };
+    let fresh = emptied(alloc, &whole)?;
+    Ok(Carriage {
+        whole,
+        steps,
+        fresh,
+        read: 0,
+        drafted: 0,
+        drafts: Log::new(),
+    })
+}
+
+/// Enters the entries of records that are kept for some steps into the manager that has what is kept of those before them.
+///
+/// Errors: Full if one is not entered.
+fn carry_all(
+    alloc: Global,
+    steps: &KeptSteps<Global>,
+    fresh: &mut Manager<Global>,
+    records: &[Record<Global>],
+) -> Result<(), LedgerFault>
+    ensures carried { OnOk result ((front es : List (Entry Global)) → All (λ e. IsWritableEntry e) es → map recorded es ≡ records.now → is_legal fresh.old.settings (front ++ es) → past fresh.old.history ≡ left_for fresh.old.settings steps.now (past front) → past fresh.new.history ≡ left_for fresh.old.settings steps.now (past (front ++ es))) }
+    ensures settings { fresh.new.settings ≡ fresh.old.settings }
+{
+    for stored in records {
+        let Ok(()) = carry_record(alloc, steps, fresh, stored) else {
+            return Err(LedgerFault::Full);
+        };
+    }
+    Ok(())
+}
+
+/// Reads the next records once more, at most `SLICE`, and enters those that are kept.
+///
+/// Errors: those of the ledger; Full if one is not entered.
+fn carry<D: DraftLedger>(alloc: Global, ledger: &mut D, c: &mut Carriage) -> Result<(), LedgerFault>
+    ensures carried { OnOk result (D.is_sound ledger.new → (s : Settings) → IsCarried s (D.kept ledger.old) c.old → IsCarried s (D.kept ledger.old) c.new) }
+    ensures noted { firsts c.new.drafts.items ≡ firsts c.old.drafts.items }
+    ensures drafts { D.is_sound ledger.new → D.drafts ledger.new ≡ D.drafts ledger.old }
+    ensures stays { Stays D.DraftLedger ledger.old ledger.new }
+{
+    let left = c.whole.entries().saturating_sub(c.read);
+    let records = ledger.read(c.read as u64, left.min(SLICE))?;
+    let Some(next) = c.read.checked_add(records.len()) else {
+        return Err(LedgerFault::Full);
+    };
+    carry_all(alloc, &c.steps, &mut c.fresh, &records)?;
+    c.read = next;
+    Ok(())
+}
+
+/// Reads the next records once more, enters those that are kept, and drafts what is entered, at most `SLICE`. Returns whether
+/// all were read.
+///
+/// Errors: those of the ledger; Full if one is not entered.
+pub(crate) fn carry_on<D: DraftLedger>(
+    alloc: Global,
+    ledger: &mut D,
+    c: &mut Carriage,
+) -> Result<bool, LedgerFault>
+    ensures carried { OnOk result (D.is_sound ledger.new → (s : Settings) → IsCarried s (D.kept ledger.old) c.old → IsCarried s (D.kept ledger.old) c.new) }
+    ensures put { OnOk result (D.is_sound ledger.new → D.drafts ledger.old ≡ firsts c.old.drafts.items → D.drafts ledger.new ≡ firsts c.new.drafts.items) }
+    ensures all { IfOk result (λ all. all ≡ true → length c.new.whole.history ≤ c.new.read) }
+    ensures stays { Stays D.DraftLedger ledger.old ledger.new }
+{
+    carry(alloc, ledger, c)?;
+    draft_on(alloc, ledger, &c.fresh, &mut c.drafted, &mut c.drafts)?;
+    Ok(c.whole.entries() <= c.read)
+}

@@ -1,0 +1,112 @@
+//! From one stage of a compaction to the next.
+
+ghost use Rattle.std.specs.Prelude.{◌≡◌, IfOk};
+ghost use Rattle.ups_life.specs.Settings.{Settings, IsMoment};
+ghost use Rattle.ups_lasting.specs.Slices.{Stays};
+ghost use Rattle.ups_lasting.specs.Stages.{Agrees};
+
+use crate::carrying::{begin_carriage, carry_on};
+use crate::draft_ledger::DraftLedger;
+use crate::finishing::{begin_follow, finish, finish_on};
+use crate::stage::{Carriage, Finish, SLICE, Stage};
+use crate::surveying::{emptied, survey};
+use std::alloc::Global;
+use ups_ledger::LedgerFault;
+use ups_manager::Manager;
+
+/// Deletes drafts of an earlier compaction. Returns the stage after that.
+///
+/// Errors: those of the ledger; Full.
+fn clear<D: DraftLedger>(
+    alloc: Global,
+    ledger: &mut D,
+    empty: &Manager<Global>,
+) -> Result<Stage, LedgerFault>
+    ensures agrees { IfOk result (λ next. D.is_sound ledger.new → Agrees empty.now.settings next (D.kept ledger.old) (D.drafts ledger.new)) }
+    ensures stays { Stays D.DraftLedger ledger.old ledger.new }
+{
+    let fresh = emptied(alloc, empty)?;
+    if ledger.clear(SLICE as u32)? {
+        return Ok(Stage::Surveying(fresh));
+    }
+    Ok(Stage::Clearing)
+}
+
+/// Enters further records into a manager. Returns the stage after that.
+///
+/// Errors: those of the ledger; Full.
+fn survey_next<D: DraftLedger>(
+    alloc: Global,
+    ledger: &mut D,
+    whole: Manager<Global>,
+) -> Result<Stage, LedgerFault>
+    ensures agrees { IfOk result (λ next. D.is_sound ledger.new → (s : Settings) → Agrees s (Stage.Surveying whole) (D.kept ledger.old) (D.drafts ledger.old) → Agrees s next (D.kept ledger.old) (D.drafts ledger.new)) }
+    ensures stays { Stays D.DraftLedger ledger.old ledger.new }
+{
+    let mut whole = whole;
+    if !survey(alloc, ledger, &mut whole)? {
+        return Ok(Stage::Surveying(whole));
+    }
+    Ok(Stage::Carrying(begin_carriage(alloc, whole)?))
+}
+
+/// Reads further records once more. Returns the stage after that.
+///
+/// Errors: those of the ledger; Full.
+fn carry_next<D: DraftLedger>(
+    alloc: Global,
+    ledger: &mut D,
+    c: Carriage,
+    moment: u64,
+) -> Result<Stage, LedgerFault>
+    requires { IsMoment moment }
+    ensures agrees { IfOk result (λ next. D.is_sound ledger.new → (s : Settings) → Agrees s (Stage.Carrying c) (D.kept ledger.old) (D.drafts ledger.old) → Agrees s next (D.kept ledger.old) (D.drafts ledger.new)) }
+    ensures stays { Stays D.DraftLedger ledger.old ledger.new }
+{
+    let mut c = c;
+    if !carry_on(alloc, ledger, &mut c)? {
+        return Ok(Stage::Carrying(c));
+    }
+    Ok(Stage::Finishing(finish(alloc, c, moment)?))
+}
+
+/// Drafts further entries of a compacted history. Returns the stage after that.
+///
+/// Errors: those of the ledger; Full.
+fn finish_next<D: DraftLedger>(
+    alloc: Global,
+    ledger: &mut D,
+    f: Finish,
+) -> Result<Stage, LedgerFault>
+    ensures agrees { IfOk result (λ next. D.is_sound ledger.new → (s : Settings) → Agrees s (Stage.Finishing f) (D.kept ledger.old) (D.drafts ledger.old) → Agrees s next (D.kept ledger.old) (D.drafts ledger.new)) }
+    ensures stays { Stays D.DraftLedger ledger.old ledger.new }
+{
+    let mut f = f;
+    if !finish_on(alloc, ledger, &mut f)? {
+        return Ok(Stage::Finishing(f));
+    }
+    Ok(Stage::Following(begin_follow(f)))
+}
+
+/// Does a slice of a compaction up to the end of a compacted history. Returns the stage after that.
+///
+/// Errors: those of the ledger; Full.
+pub(crate) fn move_on<D: DraftLedger>(
+    alloc: Global,
+    ledger: &mut D,
+    empty: &Manager<Global>,
+    stage: Stage,
+    moment: u64,
+) -> Result<Stage, LedgerFault>
+    requires { IsMoment moment }
+    ensures agrees { IfOk result (λ next. D.is_sound ledger.new → Agrees empty.now.settings stage (D.kept ledger.old) (D.drafts ledger.old) → Agrees empty.now.settings next (D.kept ledger.old) (D.drafts ledger.new)) }
+    ensures stays { Stays D.DraftLedger ledger.old ledger.new }
+{
+    match stage {
+        Stage::Clearing => clear(alloc, ledger, empty),
+        Stage::Surveying(whole) => survey_next(alloc, ledger, whole),
+        Stage::Carrying(c) => carry_next(alloc, ledger, c, moment),
+        Stage::Finishing(f) => finish_next(alloc, ledger, f),
+        stage => Ok(stage),
+    }
+}
