@@ -23,9 +23,9 @@ up_to_end o ([] ∷ rows) = ap (λ (r : List Row). [] ∷ r) (up_to_end o rows)
 up_to_end o ((v ∷ row) ∷ rows) = ap (λ (r : List Row). (v ∷ row) ∷ r) (up_to_end o rows)
 
 -- a cursor that was placed at the end has all rows left, from the last on
-pub placed_last : (old new : View) (key : Row) → key ≡ [] → new ≡ with_cursor old 0 (sought (order_of (old.shape 1)) Backward key (old.trees 1)) → new.cursors 0 ≡ Some (reverse (old.trees 1))
-placed_last old new key none is =
-    ap (λ (v : View). v.cursors 0) is ∙ ap (λ (k : Row). Some (reverse (up_to_key (order_of (old.shape 1)) k (old.trees 1)))) none ∙ ap (λ (rows : List Row). Some (reverse rows)) (up_to_end (order_of (old.shape 1)) (old.trees 1))
+pub placed_last : (old new : View) (t : ℕ) (key : Row) → key ≡ [] → new ≡ with_cursor old 0 (sought (order_of (old.shape t)) Backward key (old.trees t)) → new.cursors 0 ≡ Some (reverse (old.trees t))
+placed_last old new t key none is =
+    ap (λ (v : View). v.cursors 0) is ∙ ap (λ (k : Row). Some (reverse (up_to_key (order_of (old.shape t)) k (old.trees t)))) none ∙ ap (λ (rows : List Row). Some (reverse rows)) (up_to_end (order_of (old.shape t)) (old.trees t))
 
 -- only the cursors have moved
 pub moved : (old new : View) (left : List Row) → new ≡ with_cursor old 0 left → new ≡ record old { cursors = new.cursors }
@@ -62,7 +62,7 @@ last_of : (P : Row → Type 0) (row : Row) (rows : List Row) → P row → AllBy
 last_of P row [] h all = h
 last_of P row (next ∷ rows) h all = last_of P next rows all.0 all.1
 
-all_last : (P : Row → Type 0) (row : Row) (rows : List Row) → AllByRecursion P (row ∷ rows) → P (last_row (row ∷ rows))
+pub all_last : (P : Row → Type 0) (row : Row) (rows : List Row) → AllByRecursion P (row ∷ rows) → P (last_row (row ∷ rows))
 all_last P row rows all = last_of P row rows all.0 all.1
 
 -- a row whose number is above the last one goes behind the others

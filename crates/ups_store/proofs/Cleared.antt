@@ -13,8 +13,9 @@ use Rattle.std.specs.declared.alloc.Global.{Global}
 use Rattle.ups_journal.specs.declared.record.Record.{Record}
 use Rattle.ups_store.specs.Rewriting.{records_of}
 use Rattle.ups_store.specs.declared.request.StoredRequest.{StoredRequest}
-use Rattle.ups_store.specs.Rows.{stored_in_run, request_row, rows_from, request_in, IsNumbered}
-use Rattle.ups_store.specs.Held.{HasTables, IsAdding, Holds}
+use Rattle.ups_store.specs.Rows.{stored_in_run, request_row, rows_from, request_in, requests_in, table_in, IsNumbered}
+use Rattle.ups_store.specs.Held.{HasTables, HasTable, IsAdding, Holds}
+use Rattle.ups_store.proofs.Tables.{IsLow, low_from, own_set, others_set, table_beside, low_not_runs, requests_at, numbered_at}
 use Rattle.ups_store.proofs.Steps.{sound_open, open_clean}
 
 rows_take : (n number : ℕ) (rs : List StoredRequest) → take n (rows_from number rs) ≡ rows_from number (take n rs)
@@ -45,15 +46,15 @@ numbered_first : (n : ℕ) (rows : List Row) → IsNumbered rows → IsNumbered 
 numbered_first n rows numbered = ap (take n) numbered ∙ rows_take n 1 (map request_in rows) ∙ ap (rows_from 1) (take-map request_in n rows)
 
 -- a delete of the last row
-pub shortens : (old new : View) (count : ℕ) → 0 < count → IsAdding old count → SetsTree old new 0 (without_rowid (pos count)) → IsAdding new (count - 1)
-shortens old new count some was sets =
+pub shortens : (old new : View) (t count : ℕ) → 0 < count → IsAdding old t count → SetsTree old new t (without_rowid (pos count)) → IsAdding new t (count - 1)
+shortens old new t count some was sets =
     let n = count - 1 in
     let at : count ≡ n + 1 = omega (arith, some) in
-    let rows : new.trees 0 ≡ take n (old.trees 0) = ap (λ (v : View). v.trees 0) sets.is ∙ ap (λ (k : ℕ). without_rowid (pos k) (old.trees 0)) at ∙ first_rows n (old.trees 0) was.numbered (was.counted ∙ at) in
+    let rows : new.trees t ≡ take n (old.trees t) = own_set old new t _ sets ∙ ap (λ (k : ℕ). without_rowid (pos k) (old.trees t)) at ∙ first_rows n (old.trees t) was.numbered (was.counted ∙ at) in
     record {
       sound = ap (λ (v : View). v.is_broken) sets.is ∙ was.sound;
-      numbered = subst IsNumbered (sym rows) (numbered_first n (old.trees 0) was.numbered);
-      counted = ap length rows ∙ length-take-le n (old.trees 0) (omega (arith, was.counted, at));
+      numbered = subst IsNumbered (sym rows) (numbered_first n (old.trees t) was.numbered);
+      counted = ap length rows ∙ length-take-le n (old.trees t) (omega (arith, was.counted, at));
     }
 
 pub none_said : (rows : List Row) → length rows ≡ 0 → map request_in rows ≡ []
@@ -67,8 +68,13 @@ tables_as old new schema tables = record {
   alike = schema.committed_shape ∙ tables.alike ∙ sym schema.shape;
   numbered = schema.numbered ∙ tables.numbered;
   unreal = ap (λ (f : ℕ → ℕ). f 1) schema.reals ∙ tables.unreal;
+  first_unreal = ap (λ (f : ℕ → ℕ). f 0) schema.reals ∙ tables.first_unreal;
+  last_unreal = ap (λ (f : ℕ → ℕ). f 2) schema.reals ∙ tables.last_unreal;
   typed = schema.committed_reals ∙ tables.typed ∙ sym schema.reals;
 }
+
+pub table_as : (old new : View) (t : ℕ) → KeepsSchema old new → HasTable old t → HasTable new t
+table_as old new t schema has = record { tables = tables_as old new schema has.tables; shaped = ap (λ (f : ℕ → Shape). f t) schema.shape ∙ has.shaped }
 
 pub rolled_tables : (old new : View) → IsRolledBack old new → HasTables old → HasTables new
 rolled_tables old new back tables =
@@ -80,6 +86,8 @@ rolled_tables old new back tables =
       alike = back.committed_shape ∙ tables.alike ∙ sym shape;
       numbered = back.numbered ∙ tables.numbered;
       unreal = ap (λ (f : ℕ → ℕ). f 1) reals ∙ tables.unreal;
+      first_unreal = ap (λ (f : ℕ → ℕ). f 0) reals ∙ tables.first_unreal;
+      last_unreal = ap (λ (f : ℕ → ℕ). f 2) reals ∙ tables.last_unreal;
       typed = back.committed_reals ∙ tables.typed ∙ sym reals;
     }
 
@@ -92,6 +100,8 @@ committed_tables old new done tables =
       alike = ap (λ (v : View). v.committed_shape) is ∙ sym (ap (λ (v : View). v.shape) is);
       numbered = ap (λ (v : View). v.is_numbered) is ∙ tables.numbered;
       unreal = ap (λ (v : View). v.reals 1) is ∙ tables.unreal;
+      first_unreal = ap (λ (v : View). v.reals 0) is ∙ tables.first_unreal;
+      last_unreal = ap (λ (v : View). v.reals 2) is ∙ tables.last_unreal;
       typed = ap (λ (v : View). v.committed_reals) is ∙ sym (ap (λ (v : View). v.reals) is);
     }
 
@@ -99,11 +109,25 @@ committed_tables old new done tables =
 pub sets_run : (old mid : View) (row : Row) → (mid.is_clean ≡ false → mid.is_open ≡ false) → (mid.is_open ≡ false → IsTrue mid.is_broken) → (IsClean mid → SetsTree old mid 1 (put_row row)) → mid.is_broken ≡ false → SetsTree old mid 1 (put_row row)
 sets_run old mid row shut broken sets sound = sets (open_clean mid shut (sound_open mid broken sound))
 
-pub run_leaves : (old mid : View) (row : Row) → SetsTree old mid 1 (put_row row) → mid.trees 0 ≡ old.trees 0
-run_leaves old mid row sets = ap (λ (v : View). v.trees 0) sets.is
+pub run_leaves : (old mid : View) (t : ℕ) (row : Row) → IsLow t → SetsTree old mid 1 (put_row row) → mid.trees t ≡ old.trees t
+run_leaves old mid t row low sets = others_set old mid 1 _ sets t (low_not_runs t low)
 
 pub run_is_put : (old mid : View) (row : Row) → SetsTree old mid 1 (put_row row) → mid.trees 1 ≡ put_row row (old.trees 1)
 run_is_put old mid row sets = ap (λ (v : View). v.trees 1) sets.is
+
+-- the requests beside a row of the runs
+pub requests_beside : (old mid : View) (t : ℕ) (row : Row) → table_in old.trees ≡ t → SetsTree old mid 1 (put_row row) → requests_in mid.trees ≡ requests_in old.trees
+requests_beside old mid t row tabled sets =
+    let now : table_in mid.trees ≡ t = table_beside old mid (others_set old mid 1 _ sets) ∙ tabled in
+    requests_at mid.trees t now ∙ ap (map request_in) (run_leaves old mid t row (low_from _ t tabled) sets) ∙ sym (requests_at old.trees t tabled)
+
+pub numbered_beside : (old mid : View) (t count : ℕ) (row : Row) → table_in old.trees ≡ t → IsAdding old t count → SetsTree old mid 1 (put_row row) → IsNumbered (mid.trees (table_in mid.trees))
+numbered_beside old mid t count row tabled was sets =
+    let now : table_in mid.trees ≡ t = table_beside old mid (others_set old mid 1 _ sets) ∙ tabled in
+    numbered_at mid.trees t now (subst IsNumbered (sym (run_leaves old mid t row (low_from _ t tabled) sets)) was.numbered)
+
+pub all_committed : (old new : View) → Commits old new → new.committed ≡ old.trees
+all_committed old new done = ap (λ (v : View). v.committed) done.is
 
 pub committed_is : (old new : View) (t : ℕ) → Commits old new → new.committed t ≡ old.trees t
 committed_is old new t done = ap (λ (v : View). v.committed t) done.is
@@ -112,12 +136,13 @@ pub committed_open : (old new : View) → Commits old new → new.is_open ≡ ol
 committed_open old new done = ap (λ (v : View). v.is_open) done.is
 
 -- the requests of a transaction are those of the store once it is committed, and a row of the runs leaves them
-pub held_replaced : (old mid new : View) (row : Row) (count : ℕ) → HasTables old → IsAdding old count → KeepsSchema old mid → SetsTree old mid 1 (put_row row) → Commits mid new → Holds new count
-held_replaced old mid new row count tables was schema sets done =
+pub held_replaced : (old mid new : View) (row : Row) (t count : ℕ) → HasTable old t → table_in old.trees ≡ t → IsAdding old t count → KeepsSchema old mid → SetsTree old mid 1 (put_row row) → Commits mid new → Holds new t count
+held_replaced old mid new row t count has tabled was schema sets done =
     let is = done.is in
-    let rows : new.trees 0 ≡ old.trees 0 = ap (λ (v : View). v.trees 0) is ∙ run_leaves old mid row sets in
+    let rows : new.trees t ≡ old.trees t = ap (λ (v : View). v.trees t) is ∙ run_leaves old mid t row (low_from _ t tabled) sets in
     record {
-      tables = committed_tables mid new done (tables_as old mid schema tables);
+      has = record { tables = committed_tables mid new done (tables_as old mid schema has.tables); shaped = ap (λ (v : View). v.shape t) is ∙ ap (λ (f : ℕ → Shape). f t) schema.shape ∙ has.shaped };
+      tabled = ap (λ (v : View). table_in v.trees) is ∙ table_beside old mid (others_set old mid 1 _ sets) ∙ tabled;
       adding = record {
         sound = ap (λ (v : View). v.is_broken) is ∙ done.sound;
         numbered = subst IsNumbered (sym rows) was.numbered;

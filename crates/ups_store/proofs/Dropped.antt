@@ -1,5 +1,5 @@
 -- The runs that are left once old ones are deleted.
-use Rattle.std.proofs.Common.{◌≡◌, ◌⊎◌, ℕ, ℤ, ◌-◌, ◌≤◌, Bool, true, false, nat_le, if◌then◌else◌, None, Some, List, [], ◌∷◌, refl, sym, ap, subst, ◌∙◌, Ordering, Less, Equal, Greater}
+use Rattle.std.proofs.Common.{◌≡◌, ℕ, ℤ, ◌-◌, Bool, true, false, nat_le, if◌then◌else◌, None, Some, List, [], ◌∷◌, refl, sym, ap, subst, ◌∙◌, Ordering, Less, Equal, Greater}
 use Rattle.std.specs.Int.{w64, cast_unsigned}
 use Rattle.std.specs.List.{AllByRecursion}
 use Rattle.std.specs.Ordering.{ordering_reverse}
@@ -14,6 +14,7 @@ use Rattle.sqlite_trees.specs.declared.store.Shape.TheVariants.{Table}
 use Rattle.sqlite_trees.specs.View.{View, SetsTree, IsOrdered, IsShaped, with_cursor}
 use Rattle.ups_store.specs.Runs.{old_in, first_old, last_runs, DropsRuns}
 use Rattle.ups_store.proofs.Scans.{from_start}
+use Rattle.ups_store.proofs.Tables.{others_set}
 
 -- a cursor that was placed at the start has all runs left
 pub placed_first : (old new : View) (key : Row) → key ≡ [] → new ≡ with_cursor old 0 (sought (order_of (old.shape 1)) Forward key (old.trees 1)) → new.cursors 0 ≡ Some (old.trees 1)
@@ -36,7 +37,7 @@ itself Less e = cc
 itself Equal e = refl
 itself Greater e = cc
 
-same_id : (v : Value) → value_cmp v v ≡ Equal
+pub same_id : (v : Value) → value_cmp v v ≡ Equal
 same_id v = itself (value_cmp v v) (value_cmp_total.antisymm v v)
 
 -- rows behind a row do not have its number
@@ -66,7 +67,7 @@ drops_one old mid new number id same sound table first sets =
     record {
       sound = sound;
       stays = ap (λ (v : View). v.is_broken) sets.is ∙ sets.sound;
-      requests = ap (λ (v : View). v.trees 0) sets.is ∙ ap (λ (db : Trees). db 0) trees;
+      others = λ t other. others_set mid new 1 _ sets t other ∙ ap (λ (db : Trees). db t) trees;
       runs = ap (λ (v : View). last_runs number (v.trees 1)) sets.is ∙ ap (λ (db : Trees). last_runs number (without_rowid id (db 1))) trees ∙ first_dropped number (old.trees 1) id table first;
     }
 

@@ -1,5 +1,7 @@
 pub mod Says
 pub mod Rows
+pub mod Tables
+pub mod Placed
 pub mod Scans
 pub mod Steps
 pub mod Opened
@@ -8,3 +10,6 @@ pub mod Begun
 pub mod Cleared
 pub mod Dropped
 pub mod Relisted
+pub mod Emptied
+pub mod Drafted
+pub mod Exchanged

@@ -1,5 +1,5 @@
 -- What a store shows that was just opened or made.
-use Rattle.std.proofs.Common.{◌≡◌, ◌≢◌, ◌⊎◌, ℕ, ◌+◌, inl, inr, Bool, true, false, ◌&&◌, List, [], ◌∷◌, slice_index, refl, sym, ap, subst, ◌∙◌, Option, Result, Ok, Err, IfOk, IfErr, IsTrue, true≢false, arith, ◌≤◌}
+use Rattle.std.proofs.Common.{◌≡◌, ◌≢◌, ◌⊎◌, ℕ, ◌+◌, inl, inr, Bool, true, false, ◌&&◌, List, [], ◌∷◌, map, pos, Equal, slice_index, refl, sym, ap, subst, ◌∙◌, Option, Result, Ok, Err, IfOk, IfErr, IsTrue, true≢false, arith, ◌≤◌}
 use Rattle.sqlite_wal.specs.Reads.{are_clean, AreClean, OnlyReads}
 use Rattle.sqlite_wal.specs.Recovery.{Image}
 use Rattle.sqlite_wal.specs.Files.{seen_image}
@@ -9,7 +9,7 @@ use Rattle.sqlite_pool.specs.Pool.{files}
 use Rattle.sqlite_store.specs.declared.store.open.Unopened.{Unopened}
 use Rattle.sqlite_store.specs.Unopened.{state_of, files_of, wanted_by, image, HasFileAs, HasSomeFile, IsFullFile, StopsCreating}
 use Rattle.sqlite_store.specs.Db.{rows_at, roots_of, IsKept, IsFile}
-use Rattle.sqlite_store.specs.Catalog.{roots_in}
+use Rattle.sqlite_store.specs.Catalog.{root_in, roots_in}
 use Rattle.sqlite_btree.specs.Chain.{Layout}
 use Rattle.sqlite_btree.specs.Stored.{Owns}
 use Rattle.sqlite_btree.proofs.StoredLemmas.{stored_root_live}
@@ -28,11 +28,16 @@ use Rattle.sqlite_store.specs.declared.catalog.Wanted.{Wanted}
 use Rattle.sqlite_store.specs.declared.saved.Saved.{Saved}
 use Rattle.sqlite_store.specs.Catalog.{shape_at}
 use Rattle.sqlite_store.specs.Saved.{kept_schema}
-use Rattle.sqlite_store.specs.Listing.{all_shapes, all_reals, file_trees, IsOurs}
+use Rattle.sqlite_store.specs.Listing.{all_shapes, all_reals, all_trees, listed_from, file_trees, IsOurs}
 use Rattle.sqlite_store.specs.Exact.{entries_of}
 use Rattle.ups_store.specs.declared.format.Format.{Format}
-use Rattle.ups_store.specs.declared.format.Format.TheVariants.{First, Second}
-use Rattle.ups_store.specs.Format.{sql_of, tables_of, format_in, IsSchema}
+use Rattle.ups_store.specs.declared.format.Format.TheVariants.{First, Second, Third, Exchanged}
+use Rattle.ups_store.specs.Format.{sql_of, tables_of, last_tables, format_in, IsSchema}
+use Rattle.ups_store.specs.Rows.{table_listed, table_in}
+use Rattle.sqlite_value.proofs.OrderLemmas.{value_cmp-Int}
+use Rattle.sqlite_value.specs.Order.{value_cmp}
+use Rattle.sqlite_value.specs.declared.value.Value.TheVariants.{Int}
+use Rattle.sqlite_trees.specs.Objects.{catalog_tree}
 use Rattle.sqlite_store.specs.FileStore.{view, state, schema_of, IsReady}
 use Rattle.sqlite_disk.specs.declared.Files.{Files}
 use Rattle.sqlite_disk.specs.Disk.{MoreFaults}
@@ -62,9 +67,48 @@ shape_second : (schema : List Wanted) → shape_at schema 1 ≡ Table → all_sh
 unfolding all_shapes
 shape_second schema h = h
 
+-- the tree of the requests in a format
+abbrev table_number : Format → ℕ
+table_number First = 0
+table_number Second = 0
+table_number Third = 0
+table_number Exchanged = 2
+
+shaped_at : (format : Format) → all_shapes (tables_of format) (table_number format) ≡ Table
+unfolding all_shapes
+shaped_at First = refl
+shaped_at Second = refl
+shaped_at Third = refl
+shaped_at Exchanged = refl
+
+table_found : (format : Format) → table_listed (listed_from 0 (tables_of format)) ≡ table_number format
+unfolding table_listed
+table_found format = go format (value_cmp-Int (pos 1) (pos 1))
+  where
+    go : (format : Format) → value_cmp (Int (pos 1)) (Int (pos 1)) ≡ Equal → table_listed (listed_from 0 (tables_of format)) ≡ table_number format
+    go First itself = rw itself refl
+    go Second itself = rw itself refl
+    go Third itself = rw itself refl
+    go Exchanged itself = rw itself refl
+
+listed_trees : (size : ℕ) (schema : List Wanted) (pages : PageMap) → file_trees size schema pages catalog_tree ≡ listed_from 0 schema
+unfolding all_trees
+listed_trees size schema pages = refl
+
 unreal_second : (format : Format) → all_reals (tables_of format) 1 ≡ 0
 unfolding all_reals
 unreal_second format = refl
+
+unreal_first : (format : Format) → all_reals (tables_of format) 0 ≡ 0
+unfolding all_reals
+unreal_first format = refl
+
+unreal_third : (format : Format) → all_reals (tables_of format) 2 ≡ 0
+unfolding all_reals
+unreal_third First = refl
+unreal_third Second = refl
+unreal_third Third = refl
+unreal_third Exchanged = refl
 
 pub if_ok : {T E : Type 0} (P Q : T → Type 0) (r : Result T E) → ((x : T) → P x → Q x) → IfOk r P → IfOk r Q
 if_ok P Q (Ok x) f h = f x h
@@ -106,7 +150,7 @@ none_of_format old new format (pages, was, now) only none (other, held) =
     let h = subst (HoldsAs old) (only other held) held in
     none (h.0, subst (Recovers used_page new) (pages_once used_page old pages h.0 was h.1) now, h.2)
 
-roots_none : (format : Format) (pages : PageMap) → rows_at used_page pages Table 1 ≡ [] → roots_of used_page (tables_of format) pages ≡ 0 ∷ 0 ∷ []
+roots_none : (format : Format) (pages : PageMap) → rows_at used_page pages Table 1 ≡ [] → roots_of used_page (tables_of format) pages ≡ 0 ∷ (0 ∷ map (root_in []) (last_tables format))
 unfolding roots_of
 roots_none format pages none = ap (λ (rows : List Row). roots_in rows (tables_of format)) none
 
@@ -120,11 +164,13 @@ none_kept format pages none file =
     let trees = file.db.trees in
     trees.apart 1 2 0 (λ (e : 1 ≡ 2). omega (arith, e)) (owns_root (file.db.layouts 1) _ (trees.kept 1) (ap (λ (r : List ℕ). slice_index r 0) roots)) (owns_root (file.db.layouts 2) _ (trees.kept 2) (ap (λ (r : List ℕ). slice_index r 1) roots))
 
--- the two rows under which a store of this format lists its tables
+-- the rows under which a store of this format lists its tables
 entries_in : (format : Format) (pages : PageMap) (rows : List Row) → rows ≡ entries_of 1 (tables_of format) (roots_of used_page (tables_of format) pages) → format ≡ format_in rows
 unfolding roots_of sql_of
 entries_in First pages rows is = ap format_in (sym is)
 entries_in Second pages rows is = ap format_in (sym is)
+entries_in Third pages rows is = ap format_in (sym is)
+entries_in Exchanged pages rows is = ap format_in (sym is)
 
 -- a store in the files has the format that the rows of its sqlite_schema tell
 pub only_format : (image : Image) (pages : PageMap) (rows : List Row) → Recovers used_page image pages → rows ≡ rows_at used_page (in_use used_page pages) Table 1 → HoldsOnly image (format_in rows)
@@ -133,6 +179,9 @@ only_format image pages rows found lists format (q, again, ours) =
     entries_in format (in_use used_page q) rows (lists ∙ ap (λ (x : PageMap). rows_at used_page (in_use used_page x) Table 1) same ∙ (ours.numbered refl).listed)
 
 module _ {D : Type 0} {g : Ghosts D} where
+  pub committed_as : (it : FileStore D g) → IsReady it → IsClean (view it) → (view it).committed ≡ file_trees (state it).page_size (schema_of it) (state it).committed
+  committed_as it ready clean = rw (clean_of _ clean) (ap (λ (saved : Option Saved). file_trees (state it).page_size (kept_schema saved (schema_of it)) (state it).committed) ready.unaltered)
+
   pub fresh_if_ready : (it : FileStore D g) → IsReady it → IsSchema (schema_of it) → IsTrue (view it).is_numbered → IsClean (view it) → IsFresh (view it)
   fresh_if_ready it ready (format, is) numbered clean = record {
     tables = record {
@@ -141,14 +190,16 @@ module _ {D : Type 0} {g : Ghosts D} where
       alike = ap (λ (saved : Option Saved). all_shapes (kept_schema saved (schema_of it))) ready.unaltered;
       numbered = numbered;
       unreal = subst (λ (schema : List Wanted). all_reals schema 1 ≡ 0) (sym is) (unreal_second format);
+      first_unreal = subst (λ (schema : List Wanted). all_reals schema 0 ≡ 0) (sym is) (unreal_first format);
+      last_unreal = subst (λ (schema : List Wanted). all_reals schema 2 ≡ 0) (sym is) (unreal_third format);
       typed = ap (λ (saved : Option Saved). all_reals (kept_schema saved (schema_of it))) ready.unaltered;
     };
+    shaped =
+        let at : table_in (view it).trees ≡ table_number format = ap table_in (ready.clean ∙ committed_as it ready clean) ∙ ap table_listed (listed_trees (state it).page_size (schema_of it) (state it).committed) ∙ ap (λ (schema : List Wanted). table_listed (listed_from 0 schema)) is ∙ table_found format in
+        subst (λ (t : ℕ). (view it).shape t ≡ Table) (sym at) (subst (λ (schema : List Wanted). all_shapes schema (table_number format) ≡ Table) (sym is) (shaped_at format));
     sound = ready.sound clean;
     same = ready.clean;
   }
-
-  pub committed_as : (it : FileStore D g) → IsReady it → IsClean (view it) → (view it).committed ≡ file_trees (state it).page_size (schema_of it) (state it).committed
-  committed_as it ready clean = rw (clean_of _ clean) (ap (λ (saved : Option Saved). file_trees (state it).page_size (kept_schema saved (schema_of it)) (state it).committed) ready.unaltered)
 
   pool_clean : (it : Pool D g) → (below.state it).is_clean ≡ are_clean g (below.files it).0 (below.files it).1
   unfolding below.state files

@@ -5,11 +5,13 @@ use Rattle.sqlite_value.specs.Order.{Row}
 use Rattle.sqlite_value.specs.declared.keys.Order.{Order}
 use Rattle.sqlite_trees.specs.Tree.{Trees, from_key, sought, order_of}
 use Rattle.sqlite_trees.specs.declared.store.Direction.TheVariants.{Forward}
+use Rattle.sqlite_trees.specs.declared.store.Shape.TheVariants.{Table}
 use Rattle.sqlite_trees.specs.View.{View, with_cursor}
 use Rattle.ups_store.specs.declared.request.StoredRequest.{StoredRequest}
 use Rattle.ups_store.specs.declared.reading.Taken.TheVariants.{End, Other, One}
-use Rattle.ups_store.specs.Rows.{request_row, rows_from, request_in, requests_in, IsNumbered}
+use Rattle.ups_store.specs.Rows.{request_row, rows_from, request_in, requests_in_tree, requests_in, table_in, IsNumbered}
 use Rattle.ups_store.specs.Held.{IsFresh, HasGiven, Holds}
+use Rattle.ups_store.proofs.Tables.{requests_at}
 use Rattle.ups_store.specs.declared.reading.Phase.{Phase}
 use Rattle.ups_store.specs.declared.reading.Phase.TheVariants.{Fresh, Reading, Ended, Failed}
 use Rattle.ups_store.specs.Shown.{is_ended}
@@ -22,11 +24,11 @@ from_start o ([] ∷ rows) = refl
 from_start o ((v ∷ row) ∷ rows) = refl
 
 -- a cursor that was placed at the start has all rows left
-pub placed : (old new : View) (key : Row) → key ≡ [] → new ≡ with_cursor old 0 (sought (order_of (old.shape 0)) Forward key (old.trees 0)) → new.cursors 0 ≡ Some (new.trees 0)
-placed old new key none is =
-    let at : new.cursors 0 ≡ Some (from_key (order_of (old.shape 0)) key (old.trees 0)) = ap (λ (v : View). v.cursors 0) is in
-    let trees : new.trees 0 ≡ old.trees 0 = ap (λ (v : View). v.trees 0) is in
-    at ∙ ap (λ (k : Row). Some (from_key (order_of (old.shape 0)) k (old.trees 0))) none ∙ ap Some (from_start (order_of (old.shape 0)) (old.trees 0)) ∙ ap Some (sym trees)
+pub placed : (old new : View) (t : ℕ) (key : Row) → key ≡ [] → new ≡ with_cursor old 0 (sought (order_of (old.shape t)) Forward key (old.trees t)) → new.cursors 0 ≡ Some (new.trees t)
+placed old new t key none is =
+    let at : new.cursors 0 ≡ Some (from_key (order_of (old.shape t)) key (old.trees t)) = ap (λ (v : View). v.cursors 0) is in
+    let trees : new.trees t ≡ old.trees t = ap (λ (v : View). v.trees t) is in
+    at ∙ ap (λ (k : Row). Some (from_key (order_of (old.shape t)) k (old.trees t))) none ∙ ap Some (from_start (order_of (old.shape t)) (old.trees t)) ∙ ap Some (sym trees)
 
 pub some_same : {X : Type 0} {a b : X} → Some a ≡ Some b → a ≡ b
 some_same e = cc
@@ -67,19 +69,23 @@ fresh_as old new is fresh = record {
     alike = ap (λ (v : View). v.committed_shape) is ∙ fresh.tables.alike ∙ sym (ap (λ (v : View). v.shape) is);
     numbered = ap (λ (v : View). v.is_numbered) is ∙ fresh.tables.numbered;
     unreal = ap (λ (v : View). v.reals 1) is ∙ fresh.tables.unreal;
+    first_unreal = ap (λ (v : View). v.reals 0) is ∙ fresh.tables.first_unreal;
+    last_unreal = ap (λ (v : View). v.reals 2) is ∙ fresh.tables.last_unreal;
     typed = ap (λ (v : View). v.committed_reals) is ∙ fresh.tables.typed ∙ sym (ap (λ (v : View). v.reals) is);
   };
+  shaped = ap (λ (v : View). v.shape (table_in v.trees)) is ∙ fresh.shaped;
   sound = ap (λ (v : View). v.is_broken) is ∙ fresh.sound;
   same = ap (λ (v : View). v.trees) is ∙ fresh.same ∙ sym (ap (λ (v : View). v.committed) is);
 }
 
-pub given_as : (old new : View) (count : ℕ) → new ≡ record old { cursors = new.cursors } → HasGiven old count → HasGiven new count
-given_as old new count is has =
+pub given_as : (old new : View) (t count : ℕ) → new ≡ record old { cursors = new.cursors } → HasGiven old t count → HasGiven new t count
+given_as old new t count is has =
     let trees : new.trees ≡ old.trees = ap (λ (v : View). v.trees) is in
     record {
       fresh = fresh_as old new is has.fresh;
-      within = subst (λ (db : Trees). count ≤ length (db 0)) (sym trees) has.within;
-      rows = subst (λ (db : Trees). take count (db 0) ≡ rows_from 1 (take count (requests_in db))) (sym trees) has.rows;
+      tabled = ap table_in trees ∙ has.tabled;
+      within = subst (λ (db : Trees). count ≤ length (db t)) (sym trees) has.within;
+      rows = subst (λ (db : Trees). take count (db t) ≡ rows_from 1 (take count (requests_in_tree db t))) (sym trees) has.rows;
     }
 
 -- the next row is the request behind those that were given
@@ -98,55 +104,60 @@ given_next rows count row left request has within at is says =
           ∙ rows_push 1 (take count all) request ∙ ap (rows_from 1) (sym requests),
     )
 
-pub record GivesNext (old new : View) (count : ℕ) (request : StoredRequest) : Type 0 where
-  pub given : HasGiven new (count + 1)
-  pub left : new.cursors 0 ≡ Some (drop (count + 1) (new.trees 0))
+pub record GivesNext (old new : View) (t count : ℕ) (request : StoredRequest) : Type 0 where
+  pub given : HasGiven new t (count + 1)
+  pub left : new.cursors 0 ≡ Some (drop (count + 1) (new.trees t))
   pub more : take (count + 1) (requests_in new.committed) ≡ take count (requests_in old.committed) ++ request ∷ []
 
-pub gives_next : (old new : View) (count : ℕ) (request : StoredRequest) → HasGiven old count → old.cursors 0 ≡ Some (drop count (old.trees 0)) → TakesNext old new count (One request) → GivesNext old new count request
-gives_next old new count request has left (row, is, says, steps) =
-    let rows = old.trees 0 in
+pub gives_next : (old new : View) (t count : ℕ) (request : StoredRequest) → HasGiven old t count → old.cursors 0 ≡ Some (drop count (old.trees t)) → TakesNext old new count (One request) → GivesNext old new t count request
+gives_next old new t count request has left (row, is, says, steps) =
+    let rows = old.trees t in
     let at : drop count rows ≡ row ∷ steps.left = some_same (sym left ∙ steps.before) in
     let next = is_next count rows row steps.left at in
     let both = given_next rows count row steps.left request has.rows has.within at is says in
     let trees : new.trees ≡ old.trees = ap (λ (v : View). v.trees) steps.same in
-    let was = given_as old new count steps.same has in
+    let was = given_as old new t count steps.same has in
+    let now : requests_in new.committed ≡ map request_in rows = ap requests_in (sym was.fresh.same ∙ trees) ∙ requests_at old.trees t has.tabled in
+    let before : map request_in rows ≡ requests_in old.committed = sym (requests_at old.trees t has.tabled) ∙ ap requests_in has.fresh.same in
     record {
       given = record {
         fresh = was.fresh;
-        within = subst (λ (db : Trees). count + 1 ≤ length (db 0)) (sym trees) next.within;
-        rows = subst (λ (db : Trees). take (count + 1) (db 0) ≡ rows_from 1 (take (count + 1) (requests_in db))) (sym trees) both.1;
+        tabled = was.tabled;
+        within = subst (λ (db : Trees). count + 1 ≤ length (db t)) (sym trees) next.within;
+        rows = subst (λ (db : Trees). take (count + 1) (db t) ≡ rows_from 1 (take (count + 1) (requests_in_tree db t))) (sym trees) both.1;
       };
-      left = steps.after ∙ ap Some (sym next.left) ∙ ap (λ (db : Trees). Some (drop (count + 1) (db 0))) (sym trees);
-      more = ap (λ (db : Trees). take (count + 1) (requests_in db)) (sym was.fresh.same ∙ trees) ∙ both.0 ∙ ap (λ (db : Trees). take count (requests_in db) ++ request ∷ []) has.fresh.same;
+      left = steps.after ∙ ap Some (sym next.left) ∙ ap (λ (db : Trees). Some (drop (count + 1) (db t))) (sym trees);
+      more = ap (take (count + 1)) now ∙ both.0 ∙ ap (λ (rs : List StoredRequest). take count rs ++ request ∷ []) before;
     }
 
 -- at the end all have been given
 dropped_all : {X : Type 0} (n : ℕ) (xs : List X) → drop n xs ≡ [] → length xs ≤ n
 dropped_all n xs h = omega (arith, length-drop n xs, ap length h)
 
-pub ends : (old new : View) (count : ℕ) → HasGiven old count → old.cursors 0 ≡ Some (drop count (old.trees 0)) → TakesNext old new count End → HasGiven new count × (length (new.trees 0) ≡ count)
-ends old new count has left (none, is) =
-    let at : drop count (old.trees 0) ≡ [] = some_same (sym left ∙ none) in
+pub ends : (old new : View) (t count : ℕ) → HasGiven old t count → old.cursors 0 ≡ Some (drop count (old.trees t)) → TakesNext old new count End → HasGiven new t count × (length (new.trees t) ≡ count)
+ends old new t count has left (none, is) =
+    let at : drop count (old.trees t) ≡ [] = some_same (sym left ∙ none) in
     let trees : new.trees ≡ old.trees = ap (λ (v : View). v.trees) is in
-    (given_as old new count is has, ap (λ (db : Trees). length (db 0)) trees ∙ omega (arith, dropped_all count (old.trees 0) at, has.within))
+    (given_as old new t count is has, ap (λ (db : Trees). length (db t)) trees ∙ omega (arith, dropped_all count (old.trees t) at, has.within))
 
 -- a row that is not the request with its place as its number
-pub not_numbered : (old new : View) (count : ℕ) → HasGiven old count → old.cursors 0 ≡ Some (drop count (old.trees 0)) → TakesNext old new count Other → IsNumbered (old.committed 0) → ⊥
-not_numbered old new count has left (row, other, steps) numbered =
-    let rows = old.committed 0 in
-    let at : drop count rows ≡ row ∷ steps.left = ap (λ (db : Trees). drop count (db 0)) (sym has.fresh.same) ∙ some_same (sym left ∙ steps.before) in
+pub not_numbered : (old new : View) (t count : ℕ) → HasGiven old t count → old.cursors 0 ≡ Some (drop count (old.trees t)) → TakesNext old new count Other → IsNumbered (old.committed (table_in old.committed)) → ⊥
+not_numbered old new t count has left (row, other, steps) known =
+    let rows = old.committed t in
+    let tabled : table_in old.committed ≡ t = ap table_in (sym has.fresh.same) ∙ has.tabled in
+    let numbered : IsNumbered rows = subst (λ (k : ℕ). IsNumbered (old.committed k)) tabled known in
+    let at : drop count rows ≡ row ∷ steps.left = ap (λ (db : Trees). drop count (db t)) (sym has.fresh.same) ∙ some_same (sym left ∙ steps.before) in
     let said : drop count (map request_in rows) ≡ request_in row ∷ map request_in steps.left = drop-map request_in count rows ∙ ap (map request_in) at in
     let all : row ∷ steps.left ≡ rows_from (1 + count) (request_in row ∷ map request_in steps.left) = sym at ∙ ap (drop count) numbered ∙ rows_drop count 1 (map request_in rows) ∙ ap (rows_from (1 + count)) said in
     let first : row ≡ request_row (pos (1 + count)) (request_in row) = cc in
     other (first ∙ ap (λ (n : ℕ). request_row (pos n) (request_in row)) (omega arith))
 
 -- once all have been given, they are requests, numbered from 1
-pub held_ended : (v : View) (count : ℕ) → HasGiven v count → length (v.trees 0) ≡ count → Holds v count
-held_ended v count has all =
-    let rows : take count (v.trees 0) ≡ v.trees 0 = take_all count (v.trees 0) (omega (arith, all)) in
-    let said : take count (requests_in v.trees) ≡ requests_in v.trees = take_all count (requests_in v.trees) (omega (arith, length-map (v.trees 0) request_in, all)) in
-    record { tables = has.fresh.tables; adding = record { sound = has.fresh.sound; numbered = sym rows ∙ has.rows ∙ ap (rows_from 1) said; counted = all }; same = has.fresh.same }
+pub held_ended : (v : View) (t count : ℕ) → HasGiven v t count → length (v.trees t) ≡ count → Holds v t count
+held_ended v t count has all =
+    let rows : take count (v.trees t) ≡ v.trees t = take_all count (v.trees t) (omega (arith, all)) in
+    let said : take count (requests_in_tree v.trees t) ≡ requests_in_tree v.trees t = take_all count (requests_in_tree v.trees t) (omega (arith, length-map (v.trees t) request_in, all)) in
+    record { has = record { tables = has.fresh.tables; shaped = subst (λ (k : ℕ). v.shape k ≡ Table) has.tabled has.fresh.shaped }; tabled = has.tabled; adding = record { sound = has.fresh.sound; numbered = sym rows ∙ has.rows ∙ ap (rows_from 1) said; counted = all }; same = has.fresh.same }
 
 pub ended_is : (phase : Phase) → IsTrue (is_ended phase) → phase ≡ Ended
 ended_is Fresh h = absurd (true≢false (sym h))

@@ -8,9 +8,10 @@ use Rattle.sqlite_disk.specs.Disk.{MoreFaults}
 use Rattle.sqlite_trees.specs.declared.error.StoreError.{StoreError}
 use Rattle.sqlite_trees.specs.declared.error.StoreError.TheVariants.{OutOfMemory, Io, Corrupt, Full, Broken, Unstorable}
 use Rattle.sqlite_trees.specs.View.{View, doubt, IsClean, SetsTree, OnlyWrites, KeepsSchema, KeepsCommitted, IsFailure, HasCause, IsRolledBack, Commits}
-use Rattle.ups_store.specs.Rows.{request_row, rows_from, request_in, requests_in, IsNumbered}
+use Rattle.ups_store.specs.Rows.{request_row, rows_from, request_in, requests_in_tree, requests_in, table_in, IsNumbered}
 use Rattle.ups_store.specs.declared.request.StoredRequest.{StoredRequest}
-use Rattle.ups_store.specs.Held.{IsAdding, Adds, Holds, HoldsIfOpen}
+use Rattle.ups_store.specs.Held.{IsAdding, Adds, Holds, HoldsIfOpen, LeavesOthers}
+use Rattle.ups_store.proofs.Tables.{low_from, own_set, table_stays, requests_at, numbered_at}
 use Rattle.ups_store.proofs.Rows.{put_last, rows_length, rows_push}
 
 pub on_either : {T E P : Type 0} (r : Result T E) → OnOk r P → IfErr r (λ _. P) → P
@@ -36,16 +37,16 @@ said_more rows k count numbered counted says =
     map-push [] x = refl
     map-push (y ∷ xs) x = ap (λ (r : List StoredRequest). request_in y ∷ r) (map-push xs x)
 
-pub adds : (old new : View) (k : StoredRequest) (count : ℕ) → IsAdding old count → request_in (request_row (pos (count + 1)) k) ≡ k → SetsTree old new 0 (put_row (request_row (pos (count + 1)) k)) → Adds old new (k ∷ []) count
-adds old new k count was again sets =
-    let ks = requests_in old.trees in
-    let rows : new.trees 0 ≡ rows_from 1 (ks ++ k ∷ []) = ap (λ (v : View). v.trees 0) sets.is ∙ grown (old.trees 0) k count was.numbered was.counted in
-    let says : requests_in new.trees ≡ ks ++ k ∷ [] = ap (map request_in) rows ∙ said_more (old.trees 0) k count was.numbered was.counted again in
+pub adds : (old new : View) (t : ℕ) (k : StoredRequest) (count : ℕ) → IsAdding old t count → request_in (request_row (pos (count + 1)) k) ≡ k → SetsTree old new t (put_row (request_row (pos (count + 1)) k)) → Adds old new t (k ∷ []) count
+adds old new t k count was again sets =
+    let ks = requests_in_tree old.trees t in
+    let rows : new.trees t ≡ rows_from 1 (ks ++ k ∷ []) = own_set old new t _ sets ∙ grown (old.trees t) k count was.numbered was.counted in
+    let says : requests_in_tree new.trees t ≡ ks ++ k ∷ [] = ap (map request_in) rows ∙ said_more (old.trees t) k count was.numbered was.counted again in
     record {
       adding = record {
         sound = ap (λ (v : View). v.is_broken) sets.is ∙ was.sound;
         numbered = rows ∙ ap (rows_from 1) (sym says);
-        counted = ap length rows ∙ rows_length 1 (ks ++ k ∷ []) ∙ length-last ks k ∙ ap (λ (n : ℕ). n + 1) (length-map (old.trees 0) request_in ∙ was.counted);
+        counted = ap length rows ∙ rows_length 1 (ks ++ k ∷ []) ∙ length-last ks k ∙ ap (λ (n : ℕ). n + 1) (length-map (old.trees t) request_in ∙ was.counted);
       };
       more = says;
     }
@@ -54,10 +55,10 @@ adds old new k count was again sets =
     length-last [] x = refl
     length-last (y ∷ xs) x = omega (arith, length-last xs x)
 
-pub adds_more : (old mid new : View) (rs : List StoredRequest) (r : StoredRequest) (count all : ℕ) → all ≡ count + length rs → Adds old mid rs count → Adds mid new (r ∷ []) all → Adds old new (rs ++ r ∷ []) count
-adds_more old mid new rs r count all is first then = record {
-  adding = subst (IsAdding new) (omega (arith, is, length-append rs (r ∷ []))) then.adding;
-  more = then.more ∙ ap (λ (xs : List StoredRequest). xs ++ r ∷ []) first.more ∙ append_assoc (requests_in old.trees) rs (r ∷ []);
+pub adds_more : (old mid new : View) (t : ℕ) (rs : List StoredRequest) (r : StoredRequest) (count all : ℕ) → all ≡ count + length rs → Adds old mid t rs count → Adds mid new t (r ∷ []) all → Adds old new t (rs ++ r ∷ []) count
+adds_more old mid new t rs r count all is first then = record {
+  adding = subst (IsAdding new t) (omega (arith, is, length-append rs (r ∷ []))) then.adding;
+  more = then.more ∙ ap (λ (xs : List StoredRequest). xs ++ r ∷ []) first.more ∙ append_assoc (requests_in_tree old.trees t) rs (r ∷ []);
 }
 
 -- a write leaves what is committed
@@ -116,11 +117,11 @@ schema_through a b c h k = record { shape = k.shape ∙ h.shape; reals = k.reals
 pub clean_before : (a b : View) → doubt a.is_clean ≤ doubt b.is_clean → IsClean b → IsClean a
 clean_before a b h clean = omega (arith, h, clean)
 
-adding_as : (a b : View) (count : ℕ) → IsAdding a count → b.is_broken ≡ false → b.trees ≡ a.trees → IsAdding b count
-adding_as a b count h sound same = record {
+pub adding_as : (a b : View) (t count : ℕ) → IsAdding a t count → b.is_broken ≡ false → b.trees ≡ a.trees → IsAdding b t count
+adding_as a b t count h sound same = record {
   sound = sound;
-  numbered = subst (λ (db : Trees). IsNumbered (db 0)) (sym same) h.numbered;
-  counted = subst (λ (db : Trees). length (db 0) ≡ count) (sym same) h.counted;
+  numbered = subst (λ (db : Trees). IsNumbered (db t)) (sym same) h.numbered;
+  counted = subst (λ (db : Trees). length (db t) ≡ count) (sym same) h.counted;
 }
 
 -- a transaction that is rolled back leaves what was committed
@@ -130,41 +131,55 @@ undoes old mid new clean kept back up =
     let was = k.was_open up in
     (kept.was_open was, k.committed up ∙ kept.committed was)
 
-pub held_undone : (old mid new : View) (count : ℕ) → HoldsIfOpen old count → IsClean new → KeepsCommitted old mid → KeepsSchema old mid → IsRolledBack mid new → IsTrue new.is_open → Holds new count
-held_undone old mid new count held clean kept schema back up =
+pub held_undone : (old mid new : View) (t count : ℕ) → HoldsIfOpen old t count → IsClean new → KeepsCommitted old mid → KeepsSchema old mid → IsRolledBack mid new → IsTrue new.is_open → Holds new t count
+held_undone old mid new t count held clean kept schema back up =
     let both = undoes old mid new clean kept back up in
     let h = held both.0 in
+    let tables = h.has.tables in
     let k = back.kept clean in
-    let shape : new.shape ≡ mid.shape = back.shape (schema.shape ∙ sym h.tables.alike ∙ sym schema.committed_shape) in
-    let reals : new.reals ≡ mid.reals = back.reals (schema.reals ∙ sym h.tables.typed ∙ sym schema.committed_reals) in
+    let shape : new.shape ≡ mid.shape = back.shape (schema.shape ∙ sym tables.alike ∙ sym schema.committed_shape) in
+    let reals : new.reals ≡ mid.reals = back.reals (schema.reals ∙ sym tables.typed ∙ sym schema.committed_reals) in
     let trees : new.trees ≡ old.trees = (back.undone up).0 ∙ kept.committed (k.was_open up) ∙ sym h.same in
     record {
-      tables = record {
-        requests = ap (λ (f : ℕ → Shape). f 0) (shape ∙ schema.shape) ∙ h.tables.requests;
-        runs = ap (λ (f : ℕ → Shape). f 1) (shape ∙ schema.shape) ∙ h.tables.runs;
-        alike = back.committed_shape ∙ schema.committed_shape ∙ h.tables.alike ∙ sym (shape ∙ schema.shape);
-        numbered = back.numbered ∙ schema.numbered ∙ h.tables.numbered;
-        unreal = ap (λ (f : ℕ → ℕ). f 1) (reals ∙ schema.reals) ∙ h.tables.unreal;
-        typed = back.committed_reals ∙ schema.committed_reals ∙ h.tables.typed ∙ sym (reals ∙ schema.reals);
+      has = record {
+        tables = record {
+          requests = ap (λ (f : ℕ → Shape). f 0) (shape ∙ schema.shape) ∙ tables.requests;
+          runs = ap (λ (f : ℕ → Shape). f 1) (shape ∙ schema.shape) ∙ tables.runs;
+          alike = back.committed_shape ∙ schema.committed_shape ∙ tables.alike ∙ sym (shape ∙ schema.shape);
+          numbered = back.numbered ∙ schema.numbered ∙ tables.numbered;
+          unreal = ap (λ (f : ℕ → ℕ). f 1) (reals ∙ schema.reals) ∙ tables.unreal;
+          first_unreal = ap (λ (f : ℕ → ℕ). f 0) (reals ∙ schema.reals) ∙ tables.first_unreal;
+          last_unreal = ap (λ (f : ℕ → ℕ). f 2) (reals ∙ schema.reals) ∙ tables.last_unreal;
+          typed = back.committed_reals ∙ schema.committed_reals ∙ tables.typed ∙ sym (reals ∙ schema.reals);
+        };
+        shaped = ap (λ (f : ℕ → Shape). f t) (shape ∙ schema.shape) ∙ h.has.shaped;
       };
-      adding = adding_as old new count h.adding (back.undone up).1 trees;
+      tabled = ap table_in trees ∙ h.tabled;
+      adding = adding_as old new t count h.adding (back.undone up).1 trees;
       same = trees ∙ h.same ∙ sym both.1;
     }
 
-pub held_committed : (old mid new : View) (was count : ℕ) → HoldsIfOpen old was → IsTrue old.is_open → KeepsSchema old mid → IsAdding mid count → Commits mid new → Holds new count
-held_committed old mid new was count held up schema adding done =
+pub held_committed : (old mid new : View) (t was count : ℕ) → HoldsIfOpen old t was → IsTrue old.is_open → KeepsSchema old mid → table_in mid.trees ≡ table_in old.trees → IsAdding mid t count → Commits mid new → Holds new t count
+held_committed old mid new t was count held up schema stays adding done =
     let h = held up in
+    let tables = h.has.tables in
     let is = done.is in
     record {
-      tables = record {
-        requests = ap (λ (v : View). v.shape 0) is ∙ ap (λ (f : ℕ → Shape). f 0) schema.shape ∙ h.tables.requests;
-        runs = ap (λ (v : View). v.shape 1) is ∙ ap (λ (f : ℕ → Shape). f 1) schema.shape ∙ h.tables.runs;
-        alike = ap (λ (v : View). v.committed_shape) is ∙ sym (ap (λ (v : View). v.shape) is);
-        numbered = ap (λ (v : View). v.is_numbered) is ∙ schema.numbered ∙ h.tables.numbered;
-        unreal = ap (λ (v : View). v.reals 1) is ∙ ap (λ (f : ℕ → ℕ). f 1) schema.reals ∙ h.tables.unreal;
-        typed = ap (λ (v : View). v.committed_reals) is ∙ sym (ap (λ (v : View). v.reals) is);
+      has = record {
+        tables = record {
+          requests = ap (λ (v : View). v.shape 0) is ∙ ap (λ (f : ℕ → Shape). f 0) schema.shape ∙ tables.requests;
+          runs = ap (λ (v : View). v.shape 1) is ∙ ap (λ (f : ℕ → Shape). f 1) schema.shape ∙ tables.runs;
+          alike = ap (λ (v : View). v.committed_shape) is ∙ sym (ap (λ (v : View). v.shape) is);
+          numbered = ap (λ (v : View). v.is_numbered) is ∙ schema.numbered ∙ tables.numbered;
+          unreal = ap (λ (v : View). v.reals 1) is ∙ ap (λ (f : ℕ → ℕ). f 1) schema.reals ∙ tables.unreal;
+          first_unreal = ap (λ (v : View). v.reals 0) is ∙ ap (λ (f : ℕ → ℕ). f 0) schema.reals ∙ tables.first_unreal;
+          last_unreal = ap (λ (v : View). v.reals 2) is ∙ ap (λ (f : ℕ → ℕ). f 2) schema.reals ∙ tables.last_unreal;
+          typed = ap (λ (v : View). v.committed_reals) is ∙ sym (ap (λ (v : View). v.reals) is);
+        };
+        shaped = ap (λ (v : View). v.shape t) is ∙ ap (λ (f : ℕ → Shape). f t) schema.shape ∙ h.has.shaped;
       };
-      adding = adding_as mid new count adding (ap (λ (v : View). v.is_broken) is ∙ done.sound) (ap (λ (v : View). v.trees) is);
+      tabled = ap (λ (v : View). table_in v.trees) is ∙ stays ∙ h.tabled;
+      adding = adding_as mid new t count adding (ap (λ (v : View). v.is_broken) is ∙ done.sound) (ap (λ (v : View). v.trees) is);
       same = ap (λ (v : View). v.trees) is ∙ sym (ap (λ (v : View). v.committed) is);
     }
 
@@ -192,26 +207,31 @@ pub was_open : (old mid : View) → (mid.is_open ≡ false → IsTrue mid.is_bro
 was_open old mid broken kept sound = kept.was_open (sound_open mid broken sound)
 
 -- what a transaction that is sound would commit
-pub would_say : (old mid : View) (count : ℕ) (more : List StoredRequest) → HoldsIfOpen old count → (mid.is_clean ≡ false → mid.is_open ≡ false) → (mid.is_open ≡ false → IsTrue mid.is_broken) → KeepsCommitted old mid
-    → (IsClean mid → Adds old mid more count) → mid.is_broken ≡ false → (requests_in mid.trees ≡ requests_in old.committed ++ more) × IsNumbered (mid.trees 0)
-would_say old mid count more held shut broken kept adds sound =
+pub would_say : (old mid : View) (t count : ℕ) (more : List StoredRequest) → HoldsIfOpen old t count → (mid.is_clean ≡ false → mid.is_open ≡ false) → (mid.is_open ≡ false → IsTrue mid.is_broken) → KeepsCommitted old mid
+    → (IsClean mid → Adds old mid t more count) → (IsClean mid → LeavesOthers old mid t) → mid.is_broken ≡ false → (requests_in mid.trees ≡ requests_in old.committed ++ more) × IsNumbered (mid.trees (table_in mid.trees))
+would_say old mid t count more held shut broken kept adds others sound =
     let up = sound_open mid broken sound in
-    let added = adds (open_clean mid shut up) in
-    (added.more ∙ ap (λ (db : Trees). requests_in db ++ more) (held (kept.was_open up)).same, added.adding.numbered)
+    let clean = open_clean mid shut up in
+    let added = adds clean in
+    let h = held (kept.was_open up) in
+    let tabled : table_in mid.trees ≡ t = table_stays old mid t (low_from _ t h.tabled) (others clean) ∙ h.tabled in (
+      requests_at mid.trees t tabled ∙ added.more ∙ ap (λ (rs : List StoredRequest). rs ++ more) (sym (requests_at old.trees t h.tabled)) ∙ ap (λ (db : Trees). requests_in db ++ more) h.same,
+      numbered_at mid.trees t tabled added.adding.numbered,
+    )
 
-pub outcomes : (Before Between : Trees → Type 0) (sound : Type 0) (mid : Trees) (all : List StoredRequest) → (sound → (requests_in mid ≡ all) × IsNumbered (mid 0)) → ((db : Trees) → Between db → Before db) → (db : Trees) → ((sound × (db ≡ mid)) ⊎ Between db)
-    → Before db ⊎ ((requests_in db ≡ all) × IsNumbered (db 0))
+pub outcomes : (Before Between : Trees → Type 0) (sound : Type 0) (mid : Trees) (all : List StoredRequest) → (sound → (requests_in mid ≡ all) × IsNumbered (mid (table_in mid))) → ((db : Trees) → Between db → Before db) → (db : Trees) → ((sound × (db ≡ mid)) ⊎ Between db)
+    → Before db ⊎ ((requests_in db ≡ all) × IsNumbered (db (table_in db)))
 outcomes Before Between sound mid all says quiet db (inl both) =
     let said = says both.0 in
-    inr (ap requests_in both.1 ∙ said.0, subst (λ (d : Trees). IsNumbered (d 0)) (sym both.1) said.1)
+    inr (ap requests_in both.1 ∙ said.0, subst (λ (d : Trees). IsNumbered (d (table_in d))) (sym both.1) said.1)
 outcomes Before Between sound mid all says quiet db (inr between) = inl (quiet db between)
 
 -- the same, where the store was open before a transaction that is sound
-pub outcomes_open : (Before Between : Trees → Type 0) (sound up : Type 0) (mid : Trees) (all : List StoredRequest) → (sound → up) → (sound → (requests_in mid ≡ all) × IsNumbered (mid 0)) → ((db : Trees) → Between db → Before db) → (db : Trees)
-    → ((sound × (db ≡ mid)) ⊎ Between db) → Before db ⊎ (up × (requests_in db ≡ all) × IsNumbered (db 0))
+pub outcomes_open : (Before Between : Trees → Type 0) (sound up : Type 0) (mid : Trees) (all : List StoredRequest) → (sound → up) → (sound → (requests_in mid ≡ all) × IsNumbered (mid (table_in mid))) → ((db : Trees) → Between db → Before db) → (db : Trees)
+    → ((sound × (db ≡ mid)) ⊎ Between db) → Before db ⊎ (up × (requests_in db ≡ all) × IsNumbered (db (table_in db)))
 outcomes_open Before Between sound up mid all was says quiet db (inl both) =
     let said = says both.0 in
-    inr (was both.0, ap requests_in both.1 ∙ said.0, subst (λ (d : Trees). IsNumbered (d 0)) (sym both.1) said.1)
+    inr (was both.0, ap requests_in both.1 ∙ said.0, subst (λ (d : Trees). IsNumbered (d (table_in d))) (sym both.1) said.1)
 outcomes_open Before Between sound up mid all was says quiet db (inr between) = inl (quiet db between)
 
 pub on_err : {T E P : Type 0} (r : Result T E) → P → OnErr r P

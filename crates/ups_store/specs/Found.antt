@@ -32,11 +32,11 @@ image_of g files = seen_image g files.log files.db
 abbrev pub ReadAs : ℕ → Image → List Wanted → Trees → Type 0
 ReadAs size image schema db = (pages : PageMap) × Recovers size image pages × (db ≡ file_trees size schema pages)
 
--- The files recover to a sound database of the two tables in this format, listed in their order and with no other.
+-- The files recover to a sound database of the tables of this format, listed in their order and with no other.
 abbrev pub HoldsAs : Image → Format → Type 0
 HoldsAs image format = (pages : PageMap) × Recovers used_page image pages × IsOurs used_page true (tables_of format) pages
 
--- The files recover to a sound database of the two tables, in one of the formats.
+-- The files recover to a sound database of the tables of one of the formats.
 abbrev pub HoldsTables : Image → Type 0
 HoldsTables image = (format : Format) × HoldsAs image format
 
@@ -44,9 +44,9 @@ HoldsTables image = (format : Format) × HoldsAs image format
 abbrev pub HoldsOnly : Image → Format → Type 0
 HoldsOnly image format = (other : Format) → HoldsAs image other → other ≡ format
 
--- the database has no request and no run
+-- the database has no request, no run and no draft
 abbrev pub HasNone : Trees → Type 0
-HasNone db = (db 0 ≡ []) × (db 1 ≡ [])
+HasNone db = (db 0 ≡ []) × (db 1 ≡ []) × (db 2 ≡ [])
 
 -- The files recover to a database that lists nothing, not even a table.
 abbrev pub ListsNothing : ℕ → Image → Type 0
@@ -60,7 +60,7 @@ AreNew image = IsBlankFile used_page image × Replays whole_page image.log 0
 abbrev pub IsUnused : Image → Type 0
 IsUnused image = AreNew image ⊎ ListsNothing used_page image
 
--- the files are blank, or hold no sound database of the two tables
+-- the files are blank, or hold no sound database of the tables
 abbrev pub HoldsNone : Image → Type 0
 HoldsNone image = IsBlankFile used_page image ⊎ (¬ HoldsTables image)
 

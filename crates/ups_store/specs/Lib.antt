@@ -13,3 +13,5 @@ pub mod Refused
 pub mod Runs
 pub mod Rewriting
 pub mod Upgrading
+pub mod Drafting
+pub mod Exchanging

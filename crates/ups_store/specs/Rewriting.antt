@@ -9,7 +9,7 @@ use Rattle.ups_store.specs.declared.request.StoredRequest.{StoredRequest}
 use Rattle.ups_store.specs.declared.rewriting.Progress.{Progress}
 use Rattle.ups_store.specs.declared.rewriting.Progress.TheVariants.{Resting, Putting, Failed}
 use Rattle.ups_store.specs.declared.rewriting.Rewrite.{Rewrite}
-use Rattle.ups_store.specs.Rows.{requests_in, IsNumbered}
+use Rattle.ups_store.specs.Rows.{requests_in, table_in, IsNumbered}
 
 -- the records of all groups, in their order
 abbrev pub records_of : List (Vec (Record Global) Global) → List (Record Global)
@@ -33,6 +33,10 @@ module _ {S : Type 0} {g : Ghosts S} where
   abbrev pub written_count : Rewrite S g → ℕ
   written_count it = it.count
 
+  -- the tree in which they are
+  abbrev pub written_table : Rewrite S g → ℕ
+  written_table it = it.table
+
   -- the rewrite has not begun, or it is committed
   abbrev pub is_resting : Rewrite S g → Bool
   is_resting it = is_at_rest it.progress
@@ -45,4 +49,4 @@ module _ {S : Type 0} {g : Ghosts S} where
   pub record IsReplaced (it : Rewrite S g) (db : Trees) : Type 0 where
     pub sound : GoesOnRewriting it
     pub requests : requests_in db ≡ written_anew it
-    pub numbered : IsNumbered (db 0)
+    pub numbered : IsNumbered (db (table_in db))

@@ -1,14 +1,16 @@
 -- The row of a request, and the request that a row stands for.
-use Rattle.std.specs.Prelude.{◌≡◌, ℕ, suc, ℤ, pos, List, [], ◌∷◌, ◌++◌, map}
+use Rattle.std.specs.Prelude.{◌≡◌, ℕ, suc, ℤ, pos, List, [], ◌∷◌, map, codes, if◌then◌else◌}
 use Rattle.std.specs.declared.alloc.Global.{Global}
 use Rattle.sqlite_value.specs.declared.value.Value.{Value}
 use Rattle.sqlite_value.specs.declared.value.Value.TheVariants.{Null, Int, Text}
 use Rattle.sqlite_value.specs.Order.{Row, column, bytes}
 use Rattle.sqlite_trees.specs.Tree.{Trees}
+use Rattle.sqlite_trees.specs.Objects.{catalog_tree, row_for}
 use Rattle.ups_journal.specs.Operations.{name_of}
 use Rattle.ups_journal.specs.declared.record.Columns.{Columns}
 use Rattle.ups_journal.specs.declared.record.Record.{Record}
 use Rattle.ups_store.specs.declared.request.StoredRequest.{StoredRequest}
+use Rattle.ups_store.specs.Format.{is_text_cell}
 use Rattle.ups_store.specs.Cells.{number_cell, number_in, short_in, event_cell, event_in, lock_cell, lock_in_cell, offset_cell, offset_in, text_cell, blob_cell, bytes_in, state_cell, state_in, operation_in}
 
 -- a record that was entered in this run
@@ -69,9 +71,37 @@ abbrev pub rows_from : ℕ → List StoredRequest → List Row
 rows_from number [] = []
 rows_from number (r ∷ rs) = request_row (pos number) r ∷ rows_from (suc number) rs
 
--- the requests in the first table of a database
+-- the tree of the requests, by the row of tree 0 in a list of tables
+abbrev pub table_by : Row → ℕ
+table_by first = if is_text_cell (column first 2) (codes "draft") then 2 else 0
+
+-- the tree that a list of tables has as the table of requests: tree 0, unless that is the draft
+unfoldable pub table_listed : List Row → ℕ
+table_listed listed = table_by (row_for listed 0)
+
+-- the tree of the requests in a database
+abbrev pub table_in : Trees → ℕ
+table_in db = table_listed (db catalog_tree)
+
+-- the other one of the trees 0 and 2, by a list of tables
+unfoldable pub spare_listed : List Row → ℕ
+spare_listed listed = if is_text_cell (column (row_for listed 0) 2) (codes "draft") then 0 else 2
+
+-- the tree of the draft in a database
+abbrev pub spare_in : Trees → ℕ
+spare_in db = spare_listed (db catalog_tree)
+
+-- the requests in a tree of a database
+abbrev pub requests_in_tree : Trees → ℕ → List StoredRequest
+requests_in_tree db table = map request_in (db table)
+
+-- the requests in a database
 abbrev pub requests_in : Trees → List StoredRequest
-requests_in db = map request_in (db 0)
+requests_in db = requests_in_tree db (table_in db)
+
+-- the requests in the draft of a database
+abbrev pub drafts_in : Trees → List StoredRequest
+drafts_in db = requests_in_tree db (spare_in db)
 
 -- each row is a request whose number is its place, from 1
 abbrev pub IsNumbered : List Row → Type 0

@@ -8,6 +8,7 @@ use Rattle.sqlite_trees.specs.Tree.{rowid, put_row}
 use Rattle.sqlite_trees.specs.View.{View}
 use Rattle.ups_store.specs.declared.runs.Run.{Run}
 use Rattle.ups_store.specs.Cells.{number_cell, number_in, bytes_in}
+use Rattle.ups_store.specs.Held.{LeavesOthers}
 
 -- the cells of a run, in the order of their columns: when it began, its version and settings, the number of requests, and the
 -- terms of the service
@@ -72,7 +73,7 @@ DropsTo number old new false = new ≡ last_runs number old
 pub record DropsRuns (old new : View) (number : ℕ) (goes_on : Bool) : Type 0 where
   pub sound : old.is_broken ≡ false
   pub stays : new.is_broken ≡ false
-  pub requests : new.trees 0 ≡ old.trees 0
+  pub others : LeavesOthers old new 1
   pub runs : DropsTo number (old.trees 1) (new.trees 1) goes_on
 
 -- the transaction puts the row of a run after the last one, which counted no more requests, and deletes those of
@@ -83,5 +84,5 @@ pub record Enters (old new : View) (number : ℕ) (run : Run) (requests_before :
   pub enough : last_requests (old.trees 1) ≤ requests_before
   pub sound : old.is_broken ≡ false
   pub stays : new.is_broken ≡ false
-  pub requests : new.trees 0 ≡ old.trees 0
+  pub others : LeavesOthers old new 1
   pub runs : new.trees 1 ≡ last_runs number (put_row (row_of_run number run requests_before) (old.trees 1))

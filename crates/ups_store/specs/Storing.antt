@@ -6,6 +6,6 @@ use Rattle.sqlite_trees.specs.View.{View, IsStorableRow}
 use Rattle.ups_journal.specs.declared.record.Record.{Record}
 use Rattle.ups_store.specs.Rows.{stored_in_run, request_row}
 
--- the row of one of the records has a billion bytes or more
-abbrev pub HasTooLarge : View → ℕ → List (Record Global) → Type 0
-HasTooLarge v run = Any (λ r. (number : ℕ) × (¬ IsStorableRow (v.reals 0) (request_row (pos number) (stored_in_run run r))))
+-- the row of one of the records has a billion bytes or more, in this tree
+abbrev pub HasTooLarge : View → ℕ → ℕ → List (Record Global) → Type 0
+HasTooLarge v table run = Any (λ r. (number : ℕ) × (¬ IsStorableRow (v.reals table) (request_row (pos number) (stored_in_run run r))))

@@ -1,15 +1,18 @@
-//! The accepted requests on a disk: a table of a SQLite file that is appended to or replaced as a whole, and a table of
-//! the runs of the program. Only this crate and `ups_start` use the SQLite crates.
+//! The accepted requests on a disk: a table of a SQLite file that is appended to or replaced as a whole, a table of the
+//! runs of the program, and a draft, which is a second table of requests. Only this crate and `ups_start` use the SQLite
+//! crates.
 #![tactic(auto)]
 
 mod cells;
 mod digest;
+mod drafting;
 mod fault;
 mod format;
 mod laws;
 mod opening;
 mod path;
 mod reading;
+mod reopening;
 mod replaced;
 mod request;
 mod rewriting;
@@ -20,7 +23,7 @@ mod words;
 
 pub use digest::{digest_after, digest_with};
 pub use fault::{OpenFault, StoreFault};
-pub use laws::append_then_crash;
+pub use laws::{append_then_crash, exchange_then_crash};
 pub use opening::{OpenRefusal, create_files, open_files};
 pub use path::{create, open};
 pub use reading::Replay;

@@ -18,10 +18,11 @@ ghost use Rattle.ups_store.specs.declared.fault.OpenFault.TheVariants as faults;
 
 use crate::fault::OpenFault;
 use crate::format::{
-    CURRENT, FORMATS, Format, REQUEST, REQUEST_SQL, RUN, format_in, is_text_cell, request_table,
-    run_table,
+    CURRENT, FORMATS, Format, REQUEST, REQUEST_SQL, RUN, first_table, format_in, is_text_cell,
+    last_table, run_table, table_count,
 };
 use crate::reading::Replay;
+use crate::reopening::requests_table;
 use sqlite_disk::{Disk, Files, Start};
 use sqlite_pager::{Options, Pager};
 use sqlite_pool::probe_blank;
@@ -29,7 +30,7 @@ use sqlite_store::{FileStore, OpenError as StoreOpenError, Unopened, name_fault}
 use sqlite_trees::error::StoreError;
 use sqlite_value::row::Row;
 use sqlite_wal::{PageSize, probe_frames};
-use std::alloc::Global;
+use std::alloc::{AllocError, Global};
 
 /// The page size of the file, in bytes: most records fit in one page, and a commit writes at least two.
 const PAGE: usize = 1024;
@@ -80,8 +81,8 @@ fn unopened<D: Disk + Drop>(
             });
         }
     };
-    let tables = [request_table(), run_table(format)];
-    match Unopened::with_sums(alloc, pager, &tables, true) {
+    let tables = [first_table(format), run_table(format), last_table(format)];
+    match Unopened::with_sums(alloc, pager, &tables[..table_count(format)], true) {
         Ok(unopened) => Ok(unopened),
         Err(failed) => Err(OpenRefusal {
             fault: OpenFault::Memory,
@@ -535,12 +536,31 @@ fn told_apart<D: Disk + Drop>(alloc: Global, refusal: OpenRefusal<D>, seed: u64)
     }
 }
 
+/// Returns the requests of a store that was just opened, or its files if memory is short.
+fn replay_over<D: Disk + Drop>(
+    alloc: Global,
+    store: FileStore<D>,
+) -> Result<Replay<FileStore<D>>, OpenRefusal<D>>
+    requires { IsClean (view store) → IsFresh (view store) }
+    ensures first { IfOk result (λ r. given_out r ≡ []) }
+    ensures same { IfOk result (λ r. shown_by r ≡ view store) }
+    ensures fault { IfErr result (λ r. r.fault ≡ faults.Memory) }
+{
+    match requests_table(alloc, &store) {
+        Ok(table) => Ok(Replay::over(alloc, store, table)),
+        Err(AllocError) => Err(OpenRefusal {
+            fault: OpenFault::Memory,
+            files: store.close(),
+        }),
+    }
+}
+
 /// Opens the files for reading their requests, whichever of the known formats they have: a store keeps its format until
 /// [`RequestStore::upgrade`](crate::RequestStore::upgrade). The key of the log is derived from `seed`.
 ///
 /// Errors: Memory; Missing if there is no database in the files, or one with an empty catalog, which an interrupted
 /// creation leaves; LogAlone if there is none but the log has commits; Disk, Full and Damaged if a call of the disk
-/// failed; AtLimit; Damaged, OtherFormat and NotStore if the files have no sound database of the two tables in a known
+/// failed; AtLimit; Damaged, OtherFormat and NotStore if the files have no sound database of the tables of a known
 /// format.
 pub fn open_files<D: Disk + Drop>(
     alloc: Global,
@@ -554,7 +574,7 @@ pub fn open_files<D: Disk + Drop>(
     ensures cause { IfErr result (λ r. AreCleanFiles D.Disk r.files → HasOpenReason (reasons D.Disk files r.files) r.fault) }
 {
     match store_over(alloc, files, seed) {
-        Ok(store) => Ok(Replay::over(alloc, store)),
+        Ok(store) => replay_over(alloc, store),
         Err(refusal) => Err(told_apart(alloc, refusal, seed)),
     }
 }
@@ -576,7 +596,7 @@ pub fn create_files<D: Disk + Drop>(
     ensures cause { IfErr result (λ r. AreCleanFiles D.Disk r.files → HasOpenReason (creation_reasons D.Disk files r.files) r.fault) }
 {
     match new_store_over(alloc, files, seed) {
-        Ok(store) => Ok(Replay::over(alloc, store)),
+        Ok(store) => replay_over(alloc, store),
         Err(refusal) => Err(refusal),
     }
 }

@@ -7,7 +7,7 @@ ghost use Rattle.ups_store.specs.Held.{IsFresh, HasGiven};
 ghost use Rattle.ups_store.specs.declared.reading.Phase.TheVariants.{Fresh, Reading, Ended, Failed};
 ghost use Rattle.ups_store.specs.Taken.{TakesNext, IsLow};
 ghost use Rattle.ups_store.specs.Faults.{HasReason};
-ghost use Rattle.ups_store.specs.Rows.{requests_in, IsNumbered};
+ghost use Rattle.ups_store.specs.Rows.{table_in, IsNumbered};
 
 use crate::fault::StoreFault;
 use crate::request::{self, StoredRequest};
@@ -18,9 +18,6 @@ use sqlite_trees::store::{Direction, Store};
 use sqlite_value::row::Row;
 use std::alloc::Global;
 use ups_pdu::Bytes;
-
-/// The number of the tree of requests.
-pub(crate) const REQUESTS: u32 = 0;
 
 /// The progress of the reading.
 #[derive(Clone, Copy, Debug, PartialEq, Eq)]
@@ -43,7 +40,7 @@ enum Taken {
 }
 
 /// Returns the number of the request that follows `count` requests, or None if there is no such number.
-fn next_number(count: u64) -> Option<i64>
+pub(crate) fn next_number(count: u64) -> Option<i64>
     ensures { MatchOption result (2 ^ 63 ≤ count + 1) (λ number. (number ≡ pos (count + 1)) × (count + 1 < 2 ^ 63)) }
 {
     let count = count.checked_add(1)?;
@@ -78,18 +75,19 @@ fn take_next<S: Store>(
     }
 }
 
-/// Moves the cursor to the first row of the requests.
-fn rewind<S: Store>(store: &mut S, row: &mut Row) -> Result<(), StoreError>
+/// Moves the cursor to the first row of the requests, which are in this table.
+fn rewind<S: Store>(store: &mut S, row: &mut Row, table: u32) -> Result<(), StoreError>
     requires fresh { IsClean (S.Store.view store.old) → IsFresh (S.Store.view store.old) }
+    requires tabled { IsClean (S.Store.view store.old) → table_in (S.Store.view store.old).trees ≡ table }
     ensures live { OnOk result (IsSome ((S.Store.view store.new).cursors 0)) }
-    ensures first { OnOk result (IsClean (S.Store.view store.new) → HasGiven (S.Store.view store.new) 0) }
-    ensures left { OnOk result (IsClean (S.Store.view store.new) → (S.Store.view store.new).cursors 0 ≡ Some ((S.Store.view store.new).trees 0)) }
+    ensures first { OnOk result (IsClean (S.Store.view store.new) → HasGiven (S.Store.view store.new) table 0) }
+    ensures left { OnOk result (IsClean (S.Store.view store.new) → (S.Store.view store.new).cursors 0 ≡ Some ((S.Store.view store.new).trees table)) }
     ensures same { OnOk result (IsClean (S.Store.view store.new) → (S.Store.view store.new).committed ≡ (S.Store.view store.old).committed) }
     ensures cause { IsClean (S.Store.view store.new) → IfErr result (HasCause (S.Store.view store.old) (MoreFaults (S.Store.faults store.old) (S.Store.faults store.new)) ⊥) }
     ensures quiet { IsQuiet S.Store.view S.Store.faults S.Store.recovers S.Store.is_shielded store.old store.new }
 {
     row.clear();
-    store.seek(0, REQUESTS, row, Direction::Forward)
+    store.seek(0, table, row, Direction::Forward)
 }
 
 /// The requests of a store that was just opened, returned one by one.
@@ -99,22 +97,25 @@ pub struct Replay<S: Store> {
     store: S,
     row: Row,
     again: Row,
+    /// The number of the tree of requests.
+    table: u32,
     /// The number of requests that were returned.
     count: u64,
     phase: Phase,
     ghost live: { phase ≡ Reading → IsSome ((S.Store.view store).cursors 0) },
-    ghost read: { phase ≢ Failed → IsClean (S.Store.view store) → HasGiven (S.Store.view store) count },
+    ghost read: { phase ≢ Failed → IsClean (S.Store.view store) → HasGiven (S.Store.view store) table count },
     ghost none: { phase ≡ Fresh → count ≡ 0 },
-    ghost left: { phase ≡ Reading → IsClean (S.Store.view store) → (S.Store.view store).cursors 0 ≡ Some (drop count ((S.Store.view store).trees 0)) },
-    ghost ended: { phase ≡ Ended → IsClean (S.Store.view store) → length ((S.Store.view store).trees 0) ≡ count },
+    ghost left: { phase ≡ Reading → IsClean (S.Store.view store) → (S.Store.view store).cursors 0 ≡ Some (drop count ((S.Store.view store).trees table)) },
+    ghost ended: { phase ≡ Ended → IsClean (S.Store.view store) → length ((S.Store.view store).trees table) ≡ count },
 }
 
 impl<S: Store> Replay<S> {
     ghost use Rattle.ups_store.specs.Shown.{shown_by, all_of, given_out, last_terms_of, GivesRequest, IsUnderWay, HasFailedToShow, has_ended, requests_shown};
 
-    /// Returns the requests of a store that was just opened, before the first is read.
-    pub(crate) fn over(alloc: Global, store: S) -> Replay<S>
+    /// Returns the requests of a store that was just opened, which are in this table, before the first is read.
+    pub(crate) fn over(alloc: Global, store: S, table: u32) -> Replay<S>
         requires fresh { IsClean (S.Store.view store) → IsFresh (S.Store.view store) }
+        requires tabled { IsClean (S.Store.view store) → table_in (S.Store.view store).trees ≡ table }
         ensures first { given_out result ≡ [] }
         ensures store { result.store ≡ store }
     {
@@ -123,6 +124,7 @@ impl<S: Store> Replay<S> {
             store,
             row: Row::new(alloc),
             again: Row::new(alloc),
+            table,
             count: 0,
             phase: Phase::Fresh,
         }
@@ -172,7 +174,7 @@ impl<S: Store> Replay<S> {
         ensures quiet { IsQuiet S.Store.view S.Store.faults S.Store.recovers S.Store.is_shielded self.old.store self.new.store }
     {
         self.phase = Phase::Failed;
-        rewind(&mut self.store, &mut self.row)?;
+        rewind(&mut self.store, &mut self.row, self.table)?;
         self.phase = Phase::Reading;
         Ok(())
     }
@@ -188,7 +190,7 @@ impl<S: Store> Replay<S> {
           WasShut = ⊥;
           IsTooLarge = ⊥;
           AreTooMany = 2 ^ 63 ≤ length (given_out self.old) + 1;
-          IsNotRequest = ¬ IsNumbered ((shown_by self.old).committed 0);
+          IsNotRequest = ¬ IsNumbered ((shown_by self.old).committed (table_in (shown_by self.old).committed));
         })) }
         ensures quiet { IsQuiet S.Store.view S.Store.faults S.Store.recovers S.Store.is_shielded self.old.store self.new.store }
     {
@@ -228,7 +230,7 @@ impl<S: Store> Replay<S> {
           WasShut = HasFailedToShow self.old;
           IsTooLarge = ⊥;
           AreTooMany = 2 ^ 63 ≤ length (given_out self.old) + 1;
-          IsNotRequest = ¬ IsNumbered ((shown_by self.old).committed 0);
+          IsNotRequest = ¬ IsNumbered ((shown_by self.old).committed (table_in (shown_by self.old).committed));
         })) }
         ensures quiet { IsQuiet S.Store.view S.Store.faults S.Store.recovers S.Store.is_shielded self.old.store self.new.store }
     {
@@ -270,13 +272,14 @@ impl<S: Store> Replay<S> {
         ensures { requests_shown result ≡ shown_by self }
     {
         let Replay {
-            alloc: _,
+            alloc,
             store,
             row,
             again: _,
+            table,
             count,
             phase: _,
         } = self;
-        RequestStore::of(store, count, row)
+        RequestStore::of(alloc, store, table, count, row)
     }
 }

@@ -2,22 +2,23 @@
 
 ghost use Rattle.std.specs.Prelude.{◌≡◌, ◌⊎◌, [], false, map, IsTrue, IfOk};
 ghost use Rattle.sqlite_trees.specs.View.{IsClean};
-ghost use Rattle.ups_store.specs.Rows.{stored_in_run, IsNumbered};
+ghost use Rattle.ups_store.specs.Rows.{stored_in_run, table_in, IsNumbered};
 ghost use Rattle.ups_store.specs.Held.{HasTables};
 ghost use Rattle.ups_store.specs.Shown.{requests_shown, requests, shown_by, all_of, given_out};
 ghost use Rattle.ups_store.specs.Rewriting.{seen, records_of};
 
 use crate::fault::StoreFault;
 use crate::reading::Replay;
+use crate::reopening::reopened;
 use crate::rewriting::Rewrite;
 use crate::runs::Run;
 use crate::store::RequestStore;
-use sqlite_trees::store::Reopen;
+use sqlite_trees::store::{Alter, Reopen};
 use std::alloc::Global;
 use ups_journal::Record;
 
 /// Crashes now, and opens the store again.
-fn crash_and_reopen<S: Reopen + Drop>(
+fn crash_and_reopen<S: Reopen + Alter + Drop>(
     alloc: Global,
     rewrite: Rewrite<S>,
 ) -> Result<Replay<S>, StoreFault>
@@ -26,15 +27,13 @@ fn crash_and_reopen<S: Reopen + Drop>(
     ensures clean { IfOk result (λ r. IsClean (shown_by r) → IsClean (seen rewrite)) }
     ensures outcome { IfOk result (λ r. IsClean (shown_by r) → S.Store.recovers rewrite.store (shown_by r).committed) }
 {
-    let mut inner = rewrite.into_store();
-    inner.crash_and_reopen()?;
-    Ok(Replay::over(alloc, inner))
+    reopened(alloc, rewrite.into_store())
 }
 
 /// Replaces all requests, group by group, and crashes during or after that. The next open finds all requests that were
 /// committed, or exactly the records of all groups; once the commit has returned `Ok`, it finds the records. Its rows
 /// are requests, so reading them never returns NotRequest.
-pub fn rewrite_then_crash<S: Reopen + Drop>(
+pub fn rewrite_then_crash<S: Reopen + Alter + Drop>(
     alloc: Global,
     store: RequestStore<S>,
     entered_in: u64,
@@ -45,7 +44,7 @@ pub fn rewrite_then_crash<S: Reopen + Drop>(
     requires { IsTrue (requests_shown store).is_open }
     ensures first { IfOk result (λ r. given_out r.1 ≡ []) }
     ensures outcome { IfOk result (λ r. IsClean (shown_by r.1) → (all_of r.1 ≡ map (stored_in_run entered_in) (records_of groups.now)) ⊎ ((r.0 ≡ false) × (all_of r.1 ≡ requests store))) }
-    ensures numbered { IfOk result (λ r. IsClean (shown_by r.1) → IsNumbered ((shown_by r.1).committed 0)) }
+    ensures numbered { IfOk result (λ r. IsClean (shown_by r.1) → IsNumbered ((shown_by r.1).committed (table_in (shown_by r.1).committed))) }
 {
     let mut rewrite = store.rewrite();
     let done = rewrite.replace(entered_in, groups, number, run).is_ok();

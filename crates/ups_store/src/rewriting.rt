@@ -5,15 +5,14 @@ ghost use Rattle.sqlite_disk.specs.Disk.{MoreFaults};
 ghost use Rattle.sqlite_trees.specs.declared.store.Shape.TheVariants.{Table};
 ghost use Rattle.sqlite_trees.specs.Tree.{Trees, put_row};
 ghost use Rattle.sqlite_trees.specs.View.{doubt, IsClean, IsQuiet, KeepsSchema, KeepsCommitted, HasCause, IsStorableRow};
-ghost use Rattle.ups_store.specs.Rows.{stored_in_run, requests_in, IsNumbered};
-ghost use Rattle.ups_store.specs.Held.{HasTables, HoldsIfOpen, IsAdding};
+ghost use Rattle.ups_store.specs.Rows.{stored_in_run, requests_in, table_in, IsNumbered};
+ghost use Rattle.ups_store.specs.Held.{HasTables, HasTable, HoldsIfOpen, IsAdding, IsPuttingIn, LeavesOthers};
 ghost use Rattle.ups_store.specs.Storing.{HasTooLarge};
 ghost use Rattle.ups_store.specs.Faults.{HasReason};
 ghost use Rattle.ups_store.specs.Runs.{row_of_run};
 ghost use Rattle.ups_store.specs.declared.rewriting.Progress.TheVariants.{Resting, Putting};
 
 use crate::fault::StoreFault;
-use crate::reading::REQUESTS;
 use crate::runs::{Run, put_run};
 use crate::store::{RequestStore, count_with, put_all};
 use sqlite_trees::error::StoreError;
@@ -35,39 +34,42 @@ enum Progress {
 /// A store whose requests are replaced in one transaction: `begin`, `put` as often as needed, `commit`, `finish`.
 #[derive(Drop)]
 pub struct Rewrite<S: Store> {
+    alloc: Global,
     store: S,
     row: Row,
+    /// The number of the tree of requests.
+    table: u32,
     /// The number of requests that were put, or of all requests while nothing is written.
     count: u64,
     progress: Progress,
-    ghost held: { progress ≡ Resting → HoldsIfOpen (S.Store.view store) count },
-    ghost tables: { progress ≡ Putting → IsTrue (S.Store.view store).is_open → HasTables (S.Store.view store) },
-    ghost adding: { progress ≡ Putting → (S.Store.view store).is_broken ≡ false → IsAdding (S.Store.view store) count },
+    ghost held: { progress ≡ Resting → HoldsIfOpen (S.Store.view store) table count },
+    ghost tables: { progress ≡ Putting → IsTrue (S.Store.view store).is_open → HasTable (S.Store.view store) table },
+    ghost adding: { progress ≡ Putting → (S.Store.view store).is_broken ≡ false → IsPuttingIn (S.Store.view store) table count },
 }
 
-/// Deletes the last of `count` rows of requests.
-fn delete_last<S: Store>(store: &mut S, count: u64) -> Result<(), StoreError>
-    requires table { IsClean (S.Store.view store.old) → (S.Store.view store.old).shape 0 ≡ Table }
-    requires adding { IsClean (S.Store.view store.old) → IsAdding (S.Store.view store.old) count }
+/// Deletes the last of `count` rows of requests in this table.
+fn delete_last<S: Store>(store: &mut S, table: u32, count: u64) -> Result<(), StoreError>
+    requires table { IsClean (S.Store.view store.old) → (S.Store.view store.old).shape table ≡ Table }
+    requires adding { IsClean (S.Store.view store.old) → IsAdding (S.Store.view store.old) table count }
     requires some { 0 < count }
     requires few { count < 2 ^ 63 }
-    ensures shorter { OnOk result (IsClean (S.Store.view store.new) → IsAdding (S.Store.view store.new) (count - 1)) }
-    ensures runs { OnOk result (IsClean (S.Store.view store.new) → (S.Store.view store.new).trees 1 ≡ (S.Store.view store.old).trees 1) }
+    ensures shorter { OnOk result (IsClean (S.Store.view store.new) → IsAdding (S.Store.view store.new) table (count - 1)) }
+    ensures others { OnOk result (IsClean (S.Store.view store.new) → LeavesOthers (S.Store.view store.old) (S.Store.view store.new) table) }
     ensures kept { KeepsCommitted (S.Store.view store.old) (S.Store.view store.new) }
     ensures schema { KeepsSchema (S.Store.view store.old) (S.Store.view store.new) }
     ensures cause { IsClean (S.Store.view store.new) → IfErr result (HasCause (S.Store.view store.old) (MoreFaults (S.Store.faults store.old) (S.Store.faults store.new)) ⊥) }
     ensures quiet { IsQuiet S.Store.view S.Store.faults S.Store.recovers S.Store.is_shielded store.old store.new }
 {
-    store.delete(REQUESTS, count as i64)
+    store.delete(table, count as i64)
 }
 
 /// Deletes the rows of all requests, from last to first, so that each is at the end of its tree.
-fn delete_all<S: Store>(store: &mut S, count: u64) -> Result<(), StoreError>
-    requires table { IsClean (S.Store.view store.old) → (S.Store.view store.old).is_broken ≡ false → (S.Store.view store.old).shape 0 ≡ Table }
-    requires adding { IsClean (S.Store.view store.old) → (S.Store.view store.old).is_broken ≡ false → IsAdding (S.Store.view store.old) count }
+fn delete_all<S: Store>(store: &mut S, table: u32, count: u64) -> Result<(), StoreError>
+    requires table { IsClean (S.Store.view store.old) → (S.Store.view store.old).is_broken ≡ false → (S.Store.view store.old).shape table ≡ Table }
+    requires adding { IsClean (S.Store.view store.old) → (S.Store.view store.old).is_broken ≡ false → IsAdding (S.Store.view store.old) table count }
     requires few { count < 2 ^ 63 }
-    ensures none { OnOk result (IsClean (S.Store.view store.new) → IsAdding (S.Store.view store.new) 0) }
-    ensures runs { OnOk result (IsClean (S.Store.view store.new) → (S.Store.view store.new).trees 1 ≡ (S.Store.view store.old).trees 1) }
+    ensures none { OnOk result (IsClean (S.Store.view store.new) → IsAdding (S.Store.view store.new) table 0) }
+    ensures others { OnOk result (IsClean (S.Store.view store.new) → LeavesOthers (S.Store.view store.old) (S.Store.view store.new) table) }
     ensures sound { OnOk result (IsClean (S.Store.view store.new) → (S.Store.view store.old).is_broken ≡ false) }
     ensures kept { KeepsCommitted (S.Store.view store.old) (S.Store.view store.new) }
     ensures schema { KeepsSchema (S.Store.view store.old) (S.Store.view store.new) }
@@ -78,7 +80,7 @@ fn delete_all<S: Store>(store: &mut S, count: u64) -> Result<(), StoreError>
         return Err(StoreError::Broken);
     }
     for gone in 0..count {
-        match delete_last(store, count - gone) {
+        match delete_last(store, table, count - gone) {
             Ok(()) => {}
             Err(error) => return Err(error),
         }
@@ -96,10 +98,19 @@ impl<S: Store> RequestStore<S> {
         ensures same { result.store ≡ self.store }
         ensures count { written_count result ≡ count_of self }
     {
-        let RequestStore { store, count, row } = self;
+        let RequestStore {
+            alloc,
+            store,
+            table,
+            count,
+            drafted: _,
+            row,
+        } = self;
         Rewrite {
+            alloc,
             store,
             row,
+            table,
             count,
             progress: Progress::Resting,
         }
@@ -108,15 +119,17 @@ impl<S: Store> RequestStore<S> {
 
 impl<S: Store> Rewrite<S> {
     ghost use Rattle.ups_store.specs.Shown.{requests_shown};
-    ghost use Rattle.ups_store.specs.Rewriting.{seen, written_anew, written_count, is_resting, records_of, GoesOnRewriting, IsReplaced};
+    ghost use Rattle.ups_store.specs.Rewriting.{seen, written_anew, written_count, written_table, is_resting, records_of, GoesOnRewriting, IsReplaced};
 
     /// Returns the inner store.
     pub(crate) fn into_store(self) -> S
         ensures { result ≡ self.store }
     {
         let Rewrite {
+            alloc: _,
             store,
             row: _,
+            table: _,
             count: _,
             progress: _,
         } = self;
@@ -151,7 +164,7 @@ impl<S: Store> Rewrite<S> {
         let Some(count) = count_with(self.count, 0) else {
             return Err(StoreFault::TooMany);
         };
-        delete_all(&mut self.store, count)?;
+        delete_all(&mut self.store, self.table, count)?;
         self.count = 0;
         self.progress = Progress::Putting;
         Ok(())
@@ -177,7 +190,7 @@ impl<S: Store> Rewrite<S> {
         ensures cause { IsClean (seen self.new) → IfErr result (HasReason (record {
           Failed = MoreFaults (S.Store.faults self.old.store) (S.Store.faults self.new.store);
           WasShut = ¬ GoesOnRewriting self.old;
-          IsTooLarge = HasTooLarge (seen self.old) run records.now;
+          IsTooLarge = HasTooLarge (seen self.old) (written_table self.old) run records.now;
           AreTooMany = 2 ^ 63 ≤ written_count self.old + length records.now;
           IsNotRequest = ⊥;
         })) }
@@ -191,7 +204,14 @@ impl<S: Store> Rewrite<S> {
             return Err(StoreFault::TooMany);
         };
         self.progress = Progress::Failed;
-        put_all(&mut self.store, &mut self.row, self.count, run, records)?;
+        put_all(
+            &mut self.store,
+            &mut self.row,
+            self.table,
+            self.count,
+            run,
+            records,
+        )?;
         self.count = count;
         self.progress = Progress::Putting;
         Ok(())
@@ -260,12 +280,14 @@ impl<S: Store> Rewrite<S> {
         ensures { requests_shown result ≡ seen self }
     {
         let Rewrite {
+            alloc,
             store,
             row,
+            table,
             count,
             progress: _,
         } = self;
-        RequestStore::of(store, count, row)
+        RequestStore::of(alloc, store, table, count, row)
     }
 
     /// Deletes the requests, puts groups of records in their place, and commits.
@@ -280,7 +302,7 @@ impl<S: Store> Rewrite<S> {
         ensures is_open { OnOk result (IsClean (seen self.new) → IsTrue (seen self.new).is_open) }
         ensures tables { HasTables (seen self.old) → IsClean (seen self.new) → HasTables (seen self.new) }
         ensures crash { (db : Trees) → S.Store.recovers self.new.store db
-            → S.Store.recovers self.old.store db ⊎ ((requests_in db ≡ map (stored_in_run entered_in) (records_of groups.now)) × IsNumbered (db 0)) }
+            → S.Store.recovers self.old.store db ⊎ ((requests_in db ≡ map (stored_in_run entered_in) (records_of groups.now)) × IsNumbered (db (table_in db))) }
     {
         self.begin()?;
         self.put_groups(entered_in, groups)?;

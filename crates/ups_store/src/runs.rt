@@ -10,6 +10,7 @@ ghost use Rattle.sqlite_value.specs.Value.{owned};
 ghost use Rattle.std.specs.Int.{w64};
 ghost use Rattle.ups_store.specs.Cells.{number_in};
 ghost use Rattle.ups_store.specs.Faults.{HasReason, HasRunReason};
+ghost use Rattle.ups_store.specs.Held.{LeavesOthers};
 ghost use Rattle.ups_store.specs.Runs.{run_cells, row_of_run, old_in, first_old, DropsRuns, last_row, last_number, last_requests, terms_in, IsFirst, Enters};
 
 use crate::cells;
@@ -79,7 +80,7 @@ pub(crate) fn put_run<S: Store>(
 ) -> Result<(), StoreError>
     requires table { IsClean (S.Store.view store.old) → (S.Store.view store.old).is_broken ≡ false → (S.Store.view store.old).shape 1 ≡ Table }
     ensures put { OnOk result (IsClean (S.Store.view store.new) → SetsTree (S.Store.view store.old) (S.Store.view store.new) 1 (put_row (row_of_run number run.now requests))) }
-    ensures requests { OnOk result (IsClean (S.Store.view store.new) → (S.Store.view store.new).trees 0 ≡ (S.Store.view store.old).trees 0) }
+    ensures others { OnOk result (IsClean (S.Store.view store.new) → LeavesOthers (S.Store.view store.old) (S.Store.view store.new) 1) }
     ensures kept { KeepsCommitted (S.Store.view store.old) (S.Store.view store.new) }
     ensures schema { KeepsSchema (S.Store.view store.old) (S.Store.view store.new) }
     ensures cause { IsClean (S.Store.view store.new) → IfErr result (HasCause (S.Store.view store.old) (MoreFaults (S.Store.faults store.old) (S.Store.faults store.new))
@@ -93,10 +94,10 @@ pub(crate) fn put_run<S: Store>(
     store.put(RUNS, row)
 }
 
-/// Moves the cursor to the last row of the runs.
-fn seek_last<S: Store>(store: &mut S, row: &mut Row) -> Result<(), StoreError>
+/// Moves the cursor to the last row of this table.
+fn seek_last<S: Store>(store: &mut S, row: &mut Row, table: u32) -> Result<(), StoreError>
     ensures live { OnOk result (IsSome ((S.Store.view store.new).cursors 0)) }
-    ensures left { OnOk result (IsClean (S.Store.view store.new) → (S.Store.view store.new).cursors 0 ≡ Some (reverse ((S.Store.view store.old).trees 1))) }
+    ensures left { OnOk result (IsClean (S.Store.view store.new) → (S.Store.view store.new).cursors 0 ≡ Some (reverse ((S.Store.view store.old).trees table))) }
     ensures same { OnOk result (IsClean (S.Store.view store.new) → S.Store.view store.new ≡ record (S.Store.view store.old) { cursors = (S.Store.view store.new).cursors }) }
     ensures sound { OnOk result (IsClean (S.Store.view store.new) → (S.Store.view store.old).is_broken ≡ false) }
     ensures kept { KeepsCommitted (S.Store.view store.old) (S.Store.view store.new) }
@@ -105,7 +106,7 @@ fn seek_last<S: Store>(store: &mut S, row: &mut Row) -> Result<(), StoreError>
     ensures quiet { IsQuiet S.Store.view S.Store.faults S.Store.recovers S.Store.is_shielded store.old store.new }
 {
     row.clear();
-    store.seek(0, RUNS, row, Direction::Backward)
+    store.seek(0, table, row, Direction::Backward)
 }
 
 /// Reads the row at the cursor, or an empty one at the end.
@@ -126,9 +127,13 @@ fn take_row<S: Store>(store: &mut S, row: &mut Row) -> Result<(), StoreError>
     Ok(())
 }
 
-/// Makes `row` the row of the last run, or empty if there is none.
-fn read_last<S: Store>(store: &mut S, row: &mut Row) -> Result<(), StoreError>
-    ensures last { OnOk result (IsClean (S.Store.view store.new) → row.new ≡ last_row ((S.Store.view store.old).trees 1)) }
+/// Makes `row` the last row of this table, or empty if there is none.
+pub(crate) fn read_last<S: Store>(
+    store: &mut S,
+    row: &mut Row,
+    table: u32,
+) -> Result<(), StoreError>
+    ensures last { OnOk result (IsClean (S.Store.view store.new) → row.new ≡ last_row ((S.Store.view store.old).trees table)) }
     ensures same { OnOk result (IsClean (S.Store.view store.new) → S.Store.view store.new ≡ record (S.Store.view store.old) { cursors = (S.Store.view store.new).cursors }) }
     ensures sound { OnOk result (IsClean (S.Store.view store.new) → (S.Store.view store.old).is_broken ≡ false) }
     ensures kept { KeepsCommitted (S.Store.view store.old) (S.Store.view store.new) }
@@ -136,7 +141,7 @@ fn read_last<S: Store>(store: &mut S, row: &mut Row) -> Result<(), StoreError>
     ensures cause { IsClean (S.Store.view store.new) → IfErr result (HasCause (S.Store.view store.old) (MoreFaults (S.Store.faults store.old) (S.Store.faults store.new)) ⊥) }
     ensures quiet { IsQuiet S.Store.view S.Store.faults S.Store.recovers S.Store.is_shielded store.old store.new }
 {
-    seek_last(store, row)?;
+    seek_last(store, row, table)?;
     take_row(store, row)
 }
 
@@ -151,7 +156,7 @@ pub(crate) fn last_terms<S: Store>(
     ensures cause { IsClean (S.Store.view store.new) → IfErr result (HasCause (S.Store.view store.old) (MoreFaults (S.Store.faults store.old) (S.Store.faults store.new)) ⊥) }
     ensures quiet { IsQuiet S.Store.view S.Store.faults S.Store.recovers S.Store.is_shielded store.old store.new }
 {
-    read_last(store, row)?;
+    read_last(store, row, RUNS)?;
     Ok(cells::bytes_in(alloc, row.get(TERMS))?)
 }
 
@@ -279,7 +284,7 @@ pub(crate) fn enter_run<S: Store>(
     }) (((S.Store.view store.old).is_broken ≡ false) × (requests < last_requests ((S.Store.view store.old).trees 1)))) }
     ensures quiet { IsQuiet S.Store.view S.Store.faults S.Store.recovers S.Store.is_shielded store.old store.new }
 {
-    read_last(store, row)?;
+    read_last(store, row, RUNS)?;
     let number = number_behind(row, requests)?;
     put_run(store, row, number, run, requests)?;
     drop_old(store, row, number)?;

@@ -1,15 +1,15 @@
 use Rattle.std.proofs.Common.{ℕ, ◌≤◌, inr, subst, ◌∙◌, arith}
 use Rattle.sqlite_store.specs.Unopened.{state_of, StopsCreating, CanCreate}
 use Rattle.sqlite_trees.proofs.Doubt.{clean_of}
-use Rattle.ups_store.specs.declared.format.Format.TheVariants.{Second}
+use Rattle.ups_store.specs.declared.format.Format.TheVariants.{Third}
 use Rattle.ups_store.proofs.Opened.{fresh_if_ready, clean_back, faults_back, reason_back}
 use Rattle.ups_store.proofs.opening.made.Goals as goal
 
 pub returns-in-Ok-clause-fresh : goal.returns-in-Ok-clause-fresh
-returns-in-Ok-clause-fresh g c clean = fresh_if_ready c.in-Ok.store c.in-Ok.ensures.ready (Second, c.in-Ok.ensures.schema ∙ c.requires.table) c.in-Ok.ensures.numbered clean
+returns-in-Ok-clause-fresh g c clean = fresh_if_ready c.in-Ok.store c.in-Ok.ensures.ready (Third, c.in-Ok.ensures.schema ∙ c.requires.table) c.in-Ok.ensures.numbered clean
 
 pub returns-in-Ok-clause-empty : goal.returns-in-Ok-clause-empty
-returns-in-Ok-clause-empty g c clean = (c.in-Ok.ensures.empty (clean_of _ clean) 0 (omega arith), c.in-Ok.ensures.empty (clean_of _ clean) 1 (omega arith))
+returns-in-Ok-clause-empty g c clean = (c.in-Ok.ensures.empty (clean_of _ clean) 0 (omega arith), c.in-Ok.ensures.empty (clean_of _ clean) 1 (omega arith), c.in-Ok.ensures.empty (clean_of _ clean) 2 (omega arith))
 
 pub returns-in-Ok-clause-honest : goal.returns-in-Ok-clause-honest
 returns-in-Ok-clause-honest g c clean = c.in-Ok.ensures.honest (clean_of _ clean)

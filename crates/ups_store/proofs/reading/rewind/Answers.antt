@@ -7,4 +7,4 @@ mapped (Ok x) f h = f h
 mapped (Err e) f h = tt
 
 pub returns-clause-left : goal.returns-clause-left
-returns-clause-left g c = mapped c.seek.result (λ seeks clean. placed (g.S.Store.view c.args.store.now) (g.S.Store.view c.seek.new.self) _ c.clear.ensures (seeks clean)) c.seek.ensures.ok
+returns-clause-left g c = mapped c.seek.result (λ seeks clean. placed (g.S.Store.view c.args.store.now) (g.S.Store.view c.seek.new.self) c.args.table _ c.clear.ensures (seeks clean)) c.seek.ensures.ok

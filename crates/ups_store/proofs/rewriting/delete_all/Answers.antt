@@ -3,6 +3,7 @@ use Rattle.sqlite_trees.specs.declared.store.Shape.{Shape}
 use Rattle.sqlite_trees.specs.View.{IsClean}
 use Rattle.ups_store.specs.Held.{IsAdding}
 use Rattle.ups_store.proofs.Steps.{clean_before, kept_through, schema_through, later_cause}
+use Rattle.ups_store.proofs.Tables.{others_through}
 use Rattle.ups_store.proofs.rewriting.delete_all.Goals as goal
 
 pub returns-in-Err-clause-cause : goal.returns-in-Err-clause-cause
@@ -24,8 +25,8 @@ loop-gone-preserved g c =
       quiet = search rules;
       kept = kept_through old mid new inv.kept c.delete_last.ensures.kept;
       schema = schema_through old mid new inv.schema c.delete_last.ensures.schema;
-      table = λ clean. ap (λ (s : ℕ → Shape). s 0) c.delete_last.ensures.schema.shape ∙ inv.table (before clean);
-      adding = λ clean. subst (IsAdding new) (omega arith) (c.in-Ok.ensures.shorter clean);
+      table = λ clean. ap (λ (s : ℕ → Shape). s c.args.table) c.delete_last.ensures.schema.shape ∙ inv.table (before clean);
+      adding = λ clean. subst (IsAdding new c.args.table) (omega arith) (c.in-Ok.ensures.shorter clean);
       sound = λ clean. inv.sound (before clean);
-      runs = λ clean. c.in-Ok.ensures.runs clean ∙ inv.runs (before clean);
+      others = λ clean. others_through old mid new c.args.table (inv.others (before clean)) (c.in-Ok.ensures.others clean);
     }

@@ -1,7 +1,7 @@
 use Rattle.std.proofs.Common.{◌≡◌, ◌-◌, false}
 use Rattle.sqlite_trees.specs.declared.store.Shape.TheVariants.{Table}
 use Rattle.sqlite_trees.specs.View.{IsClean, IsQuiet, KeepsSchema, KeepsCommitted}
-use Rattle.ups_store.specs.Held.{IsAdding}
+use Rattle.ups_store.specs.Held.{IsAdding, LeavesOthers}
 use Rattle.ups_store.proofs.rewriting.delete_all.Given as goal
 
 abbrev pub invariant-loop-gone : goal.invariant-loop-gone
@@ -12,8 +12,8 @@ invariant-loop-gone g l =
       quiet : IsQuiet g.S.Store.view g.S.Store.faults g.S.Store.recovers g.S.Store.is_shielded l.fn.store l.store;
       kept : KeepsCommitted old now;
       schema : KeepsSchema old now;
-      table : IsClean now → now.shape 0 ≡ Table;
-      adding : IsClean now → IsAdding now (l.fn.count - l.gone);
+      table : IsClean now → now.shape l.fn.table ≡ Table;
+      adding : IsClean now → IsAdding now l.fn.table (l.fn.count - l.gone);
       sound : IsClean now → old.is_broken ≡ false;
-      runs : IsClean now → now.trees 1 ≡ old.trees 1;
+      others : IsClean now → LeavesOthers old now l.fn.table;
     }

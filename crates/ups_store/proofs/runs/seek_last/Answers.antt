@@ -3,7 +3,7 @@ use Rattle.ups_store.proofs.Steps.{writes_kept, failed_kept, on_either, mapped}
 use Rattle.ups_store.proofs.runs.seek_last.Goals as goal
 
 pub returns-clause-left : goal.returns-clause-left
-returns-clause-left g c = mapped c.seek.result (λ seeks clean. placed_last (g.S.Store.view c.args.store.now) (g.S.Store.view c.seek.new.self) _ c.clear.ensures (seeks clean)) c.seek.ensures.ok
+returns-clause-left g c = mapped c.seek.result (λ seeks clean. placed_last (g.S.Store.view c.args.store.now) (g.S.Store.view c.seek.new.self) c.args.table _ c.clear.ensures (seeks clean)) c.seek.ensures.ok
 
 pub returns-clause-kept : goal.returns-clause-kept
 returns-clause-kept g c =

@@ -9,6 +9,7 @@ use Rattle.ups_store.specs.Rows.{stored_in_run, request_row}
 use Rattle.ups_store.specs.Held.{Adds}
 use Rattle.ups_store.specs.Storing.{HasTooLarge}
 use Rattle.ups_store.proofs.Steps.{clean_before, kept_through, schema_through, adds_more, later_cause}
+use Rattle.ups_store.proofs.Tables.{others_through}
 use Rattle.ups_store.proofs.store.put_all.Goals as goal
 
 -- what was recorded with one more record
@@ -23,8 +24,8 @@ returns-in-Err-clause-cause g c clean =
     let inv = c.loop-at.invariant in
     let x = c.index-records-at.result in
     let within : c.loop-at.at < length c.args.records.now = omega arith in
-    let large = λ (h : ¬ IsStorableRow (mid.reals 0) (request_row (pos (c.args.count + c.loop-at.at + 1)) (stored_in_run c.args.run x))).
-    let why : HasTooLarge old c.args.run c.args.records.now = (c.loop-at.at, x, within, sym c.index-records-at.is, (c.args.count + c.loop-at.at + 1, subst (λ (r : ℕ → ℕ). ¬ IsStorableRow (r 0) (request_row (pos (c.args.count + c.loop-at.at + 1)) (stored_in_run c.args.run x))) inv.schema.reals h)) in
+    let large = λ (h : ¬ IsStorableRow (mid.reals c.args.table) (request_row (pos (c.args.count + c.loop-at.at + 1)) (stored_in_run c.args.run x))).
+    let why : HasTooLarge old c.args.table c.args.run c.args.records.now = (c.loop-at.at, x, within, sym c.index-records-at.is, (c.args.count + c.loop-at.at + 1, subst (λ (r : ℕ → ℕ). ¬ IsStorableRow (r c.args.table) (request_row (pos (c.args.count + c.loop-at.at + 1)) (stored_in_run c.args.run x))) inv.schema.reals h)) in
     why in
     later_cause old mid _ _ _ _ _ c.in-Err.error inv.quiet.counts (inv.added (clean_before mid new c.put_one.ensures.quiet.clean clean)).adding.sound large (c.in-Err.ensures.cause clean)
 
@@ -44,8 +45,9 @@ loop-at-preserved g c =
       quiet = search rules;
       kept = kept_through old mid new inv.kept c.put_one.ensures.kept;
       schema = schema_through old mid new inv.schema c.put_one.ensures.schema;
-      table = λ clean. ap (λ (s : ℕ → Shape). s 0) c.put_one.ensures.schema.shape ∙ inv.table (before clean);
-      added = λ clean. subst (λ (rs : List StoredRequest). Adds old new rs c.args.count) (sym (one_more c.args.run records c.loop-at.at x within c.index-records-at.is))
-          (adds_more old mid new (map f (take c.loop-at.at records)) (f x) c.args.count (c.args.count + c.loop-at.at) number (inv.added (before clean)) (c.in-Ok.ensures.added clean));
-      runs = λ clean. c.in-Ok.ensures.runs clean ∙ inv.runs (before clean);
+      table = λ clean. ap (λ (s : ℕ → Shape). s c.args.table) c.put_one.ensures.schema.shape ∙ inv.table (before clean);
+      sound = λ clean. inv.sound (before clean);
+      added = λ clean. subst (λ (rs : List StoredRequest). Adds old new c.args.table rs c.args.count) (sym (one_more c.args.run records c.loop-at.at x within c.index-records-at.is))
+          (adds_more old mid new c.args.table (map f (take c.loop-at.at records)) (f x) c.args.count (c.args.count + c.loop-at.at) number (inv.added (before clean)) (c.in-Ok.ensures.added clean));
+      others = λ clean. others_through old mid new c.args.table (inv.others (before clean)) (c.in-Ok.ensures.others clean);
     }

@@ -1,8 +1,8 @@
-use Rattle.std.proofs.Common.{◌≡◌, map, take}
+use Rattle.std.proofs.Common.{◌≡◌, map, take, false}
 use Rattle.sqlite_trees.specs.declared.store.Shape.TheVariants.{Table}
 use Rattle.sqlite_trees.specs.View.{IsClean, IsQuiet, KeepsSchema, KeepsCommitted}
 use Rattle.ups_store.specs.Rows.{stored_in_run}
-use Rattle.ups_store.specs.Held.{Adds}
+use Rattle.ups_store.specs.Held.{Adds, LeavesOthers}
 use Rattle.ups_store.proofs.store.put_all.Given as goal
 
 abbrev pub invariant-loop-at : goal.invariant-loop-at
@@ -13,7 +13,8 @@ invariant-loop-at g l =
       quiet : IsQuiet g.S.Store.view g.S.Store.faults g.S.Store.recovers g.S.Store.is_shielded l.fn.store l.store;
       kept : KeepsCommitted old now;
       schema : KeepsSchema old now;
-      table : IsClean now → now.shape 0 ≡ Table;
-      added : IsClean now → Adds old now (map (stored_in_run l.fn.run) (take l.at l.records)) l.fn.count;
-      runs : IsClean now → now.trees 1 ≡ old.trees 1;
+      table : IsClean now → now.shape l.fn.table ≡ Table;
+      sound : IsClean now → old.is_broken ≡ false;
+      added : IsClean now → Adds old now l.fn.table (map (stored_in_run l.fn.run) (take l.at l.records)) l.fn.count;
+      others : IsClean now → LeavesOthers old now l.fn.table;
     }

@@ -8,4 +8,4 @@ of-requires g c up =
     let v = g.S.Store.view it.store in
     let clean = open_clean v (g.met.S.Store.shut_if_dirty it.store) up in
     let is = ended_is it.phase c.requires in
-    held_ended v it.count (it.read (ended_not_failed it.phase is) clean) (it.ended is clean)
+    held_ended v it.table it.count (it.read (ended_not_failed it.phase is) clean) (it.ended is clean)

@@ -13,15 +13,15 @@ use Rattle.ups_store.proofs.reading.Replay.take.Goals as goal
 not_failed : (phase : Phase) → phase ≡ Reading → phase ≢ Failed
 not_failed phase is failed = cc
 
-abbrev Given : View → Phase → ℕ → Type 0
-Given v phase count = phase ≢ Failed → IsClean v → HasGiven v count
+abbrev Given : View → Phase → ℕ → ℕ → Type 0
+Given v phase t count = phase ≢ Failed → IsClean v → HasGiven v t count
 
-abbrev Left : View → Phase → ℕ → Type 0
-Left v phase count = phase ≡ Reading → IsClean v → v.cursors 0 ≡ Some (drop count (v.trees 0))
+abbrev Left : View → Phase → ℕ → ℕ → Type 0
+Left v phase t count = phase ≡ Reading → IsClean v → v.cursors 0 ≡ Some (drop count (v.trees t))
 
-one : (old new : View) (phase : Phase) (count : ℕ) (taken : Taken) (request : _) → phase ≡ Reading → Given old phase count → Left old phase count → (IsClean new → TakesNext old new count taken) → taken ≡ One request → (IsClean new → IsClean old) → IsClean new → GivesNext old new count request
-one old new phase count taken request reading given left takes is before clean =
-    gives_next old new count request (given (not_failed phase reading) (before clean)) (left reading (before clean)) (subst (TakesNext old new count) is (takes clean))
+one : (old new : View) (phase : Phase) (t count : ℕ) (taken : Taken) (request : _) → phase ≡ Reading → Given old phase t count → Left old phase t count → (IsClean new → TakesNext old new count taken) → taken ≡ One request → (IsClean new → IsClean old) → IsClean new → GivesNext old new t count request
+one old new phase t count taken request reading given left takes is before clean =
+    gives_next old new t count request (given (not_failed phase reading) (before clean)) (left reading (before clean)) (subst (TakesNext old new count) is (takes clean))
 
 pub invariant_of-self-in-End : goal.invariant_of-self-in-End
 invariant_of-self-in-End g c =
@@ -29,7 +29,7 @@ invariant_of-self-in-End g c =
     let old = g.S.Store.view it.store in
     let new = g.S.Store.view c.take_next.new.store in
     let end = λ (clean : IsClean new).
-    ends old new it.count (it.read (not_failed it.phase c.requires.reading) (clean_before old new c.take_next.ensures.quiet.clean clean)) (it.left c.requires.reading (clean_before old new c.take_next.ensures.quiet.clean clean)) (subst (TakesNext old new it.count) c.in-End.is (c.in_ok-take_next.ensures.taken clean)) in
+    ends old new it.table it.count (it.read (not_failed it.phase c.requires.reading) (clean_before old new c.take_next.ensures.quiet.clean clean)) (it.left c.requires.reading (clean_before old new c.take_next.ensures.quiet.clean clean)) (subst (TakesNext old new it.count) c.in-End.is (c.in_ok-take_next.ensures.taken clean)) in
     record { live = λ e. absurd (cc); read = λ _ clean. (end clean).0; none = λ e. absurd (cc); left = λ e. absurd (cc); ended = λ _ clean. (end clean).1 }
 
 pub overflow_add-self : goal.overflow_add-self
@@ -42,7 +42,7 @@ invariant_of-self-in-One g c =
     let it = c.args.self.now in
     let old = g.S.Store.view it.store in
     let new = g.S.Store.view c.take_next.new.store in
-    let next = one old new it.phase it.count c.in_ok-take_next.field-0 c.in-One.request c.requires.reading it.read it.left c.in_ok-take_next.ensures.taken c.in-One.is (clean_before old new c.take_next.ensures.quiet.clean) in
+    let next = one old new it.phase it.table it.count c.in_ok-take_next.field-0 c.in-One.request c.requires.reading it.read it.left c.in_ok-take_next.ensures.taken c.in-One.is (clean_before old new c.take_next.ensures.quiet.clean) in
     record { live = λ _. c.in_ok-take_next.ensures.live; read = λ _ clean. (next clean).given; none = λ e. absurd (cc); left = λ _ clean. (next clean).left; ended = λ e. absurd (cc) }
 
 pub returns-in-Other-clause-cause : goal.returns-in-Other-clause-cause
@@ -51,11 +51,11 @@ returns-in-Other-clause-cause g c clean =
     let old = g.S.Store.view it.store in
     let new = g.S.Store.view c.take_next.new.store in
     let was = clean_before old new c.take_next.ensures.quiet.clean clean in
-    not_numbered old new it.count (it.read (not_failed it.phase c.requires.reading) was) (it.left c.requires.reading was) (subst (TakesNext old new it.count) c.in-Other.is (c.in_ok-take_next.ensures.taken clean))
+    not_numbered old new it.table it.count (it.read (not_failed it.phase c.requires.reading) was) (it.left c.requires.reading was) (subst (TakesNext old new it.count) c.in-Other.is (c.in_ok-take_next.ensures.taken clean))
 
 pub returns-in-One-clause-given : goal.returns-in-One-clause-given
 returns-in-One-clause-given g c clean =
     let it = c.args.self.now in
     let old = g.S.Store.view it.store in
     let new = g.S.Store.view c.take_next.new.store in
-    (one old new it.phase it.count c.in_ok-take_next.field-0 c.in-One.request c.requires.reading it.read it.left c.in_ok-take_next.ensures.taken c.in-One.is (clean_before old new c.take_next.ensures.quiet.clean) clean).more
+    (one old new it.phase it.table it.count c.in_ok-take_next.field-0 c.in-One.request c.requires.reading it.read it.left c.in_ok-take_next.ensures.taken c.in-One.is (clean_before old new c.take_next.ensures.quiet.clean) clean).more

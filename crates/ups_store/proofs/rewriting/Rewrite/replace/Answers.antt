@@ -1,6 +1,6 @@
 use Rattle.std.proofs.Common.{◌≡◌, inl, List, ◌++◌, map, ap, ◌∙◌}
 use Rattle.ups_store.specs.declared.request.StoredRequest.{StoredRequest}
-use Rattle.ups_store.specs.Rows.{stored_in_run, requests_in, IsNumbered}
+use Rattle.ups_store.specs.Rows.{stored_in_run, requests_in, table_in, IsNumbered}
 use Rattle.ups_store.specs.Rewriting.{records_of, IsReplaced}
 use Rattle.ups_store.proofs.Steps.{clean_before, open_clean, sound_open, mapped}
 use Rattle.ups_store.proofs.Cleared.{tables_as, both_ways}
@@ -41,6 +41,6 @@ returns-clause-crash g c db after =
     let has = λ (is : IsReplaced c.put_groups.new.self db).
     let clean = open_clean two (g.met.S.Store.shut_if_dirty c.put_groups.new.self.store) (sound_open two (g.met.S.Store.broken_if_shut c.put_groups.new.self.store) is.sound.1) in
     let requests : requests_in db ≡ all = is.requests ∙ c.in_ok-put_groups.ensures.added clean ∙ ap (λ (rs : List StoredRequest). rs ++ all) (c.in_ok-begin.ensures.empty (clean_before one two c.put_groups.ensures.quiet.clean clean)) in
-    let both : (requests_in db ≡ all) × IsNumbered (db 0) = (requests, is.numbered) in
+    let both : (requests_in db ≡ all) × IsNumbered (db (table_in db)) = (requests, is.numbered) in
     both in
     both_ways before has (c.commit.ensures.crash db after)
