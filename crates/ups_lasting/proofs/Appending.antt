@@ -1,11 +1,11 @@
 -- Records that are appended to a ledger beneath a log, and what a crash leaves of them.
-use Rattle.std.proofs.Common.{◌≡◌, ◌⊎◌, inl, inr, List, [], ◌∷◌, ◌++◌, ℕ, ◌+◌, ◌<◌, length, get_or, map, take, refl, sym, ap, ◌∙◌, arith}
+use Rattle.std.proofs.Common.{◌≡◌, ◌⊎◌, inl, inr, Bool, false, List, [], ◌∷◌, ◌++◌, ℕ, ◌+◌, ◌<◌, length, get_or, map, take, refl, sym, ap, ◌∙◌, arith}
 use Rattle.std.proofs.lemmas.List.{append_assoc, append-nil, length-append, take_more}
 use Rattle.std.specs.Global.{Global}
 use Rattle.ups_journal.specs.declared.record.Record.{Record}
 use Rattle.ups_restore.specs.Lessening.{lessened}
 use Rattle.ups_lasting.specs.declared.draft_ledger.DraftLedger.{Ghosts}
-use Rattle.ups_lasting.specs.Leaving.{Failed, LeavesOfLog}
+use Rattle.ups_lasting.specs.Leaving.{AreLeft, Failed, LeavesOfLog}
 use Rattle.ups_lasting.specs.Standing.{firsts}
 
 firsts-append : (xs ys : List (Record Global × Unit {0})) → firsts (xs ++ ys) ≡ firsts xs ++ firsts ys
@@ -31,11 +31,18 @@ none_lessened : (less : List ℕ → ℕ) (rs : List (Record Global)) → map (l
 none_lessened less [] none = refl
 none_lessened less (r ∷ rs) none = absurd cc
 
+-- with nothing tried, what is left is what was said
+pub left_said : (content said tried : List (Record Global)) (less : List ℕ → ℕ) (is_exchange : Bool) (found rs : List (Record Global)) → tried ≡ [] → AreLeft content said tried less is_exchange found rs → rs ≡ said
+left_said content said tried less is_exchange found rs none (inl a) = a.1
+left_said content said tried less is_exchange found rs none (inr (inl a)) = a.1 ∙ (ap (λ (xs : List (Record Global)). said ++ xs) none ∙ append-nil said)
+left_said content said tried less is_exchange found rs none (inr (inr a)) = a.1
+
 -- AN APPEND FAILED while the ledger was open, which then had its content alone: the crash leaves that, or also these records
-module _ {L : Type 0} (g : Ghosts L) (old new : L) (content said was tried : List (Record Global)) (less : List ℕ → ℕ) (records : List (Record Global)) where
-  pub crash_failed : (g.is_sound old → g.kept old ≡ content) → ((l : L) → g.is_sound l → (rs : List (Record Global)) → g.recovers l rs → rs ≡ g.kept l) → (g.is_first old → (rs : List (Record Global)) → g.recovers old rs → g.is_sound old)
-      → Failed g old (map (lessened less) records) new → tried ≡ records → g.is_first new → (rs : List (Record Global)) → LeavesOfLog g new content said tried less rs → LeavesOfLog g old content said was less rs ⊎ (g.is_sound old × (rs ≡ said ++ records))
-  crash_failed now settled up failed are first rs leaves = at (failed.crash first leaves.found leaves.can_leave) leaves.are
+module _ {L : Type 0} (g : Ghosts L) (old new : L) (content said was tried : List (Record Global)) (less : List ℕ → ℕ) (was_exchange : Bool) (records : List (Record Global)) where
+  pub crash_failed : (g.is_sound old → g.kept old ≡ content) → (g.is_first old → (rs : List (Record Global)) → g.recovers old rs → g.is_sound old)
+      → Failed g old (map (lessened less) records) new → tried ≡ records → g.is_first new → (rs : List (Record Global)) → LeavesOfLog g new content said tried less false rs
+      → LeavesOfLog g old content said was less was_exchange rs ⊎ (g.is_sound old × (rs ≡ said ++ records))
+  crash_failed now up failed are first rs leaves = at (failed.crash first leaves.found leaves.can_leave) leaves.are
     where
       behind : rs ≡ said ++ tried → rs ≡ said ++ records
       behind is = is ∙ ap (λ (xs : List (Record Global)). said ++ xs) are
@@ -43,11 +50,12 @@ module _ {L : Type 0} (g : Ghosts L) (old new : L) (content said was tried : Lis
       empty : leaves.found ≡ content → leaves.found ≡ content ++ map (lessened less) records → [] ≡ records
       empty short long = sym (none_lessened less records (none_behind content (map (lessened less) records) (sym short ∙ long)))
 
-      at : g.recovers old leaves.found ⊎ (g.is_sound old × (leaves.found ≡ g.kept old ++ map (lessened less) records)) → ((leaves.found ≡ content) × (rs ≡ said)) ⊎ ((leaves.found ≡ content ++ map (lessened less) tried) × (rs ≡ said ++ tried))
-          → LeavesOfLog g old content said was less rs ⊎ (g.is_sound old × (rs ≡ said ++ records))
+      at : g.recovers old leaves.found ⊎ (g.is_sound old × (leaves.found ≡ g.kept old ++ map (lessened less) records)) → AreLeft content said tried less false leaves.found rs
+          → LeavesOfLog g old content said was less was_exchange rs ⊎ (g.is_sound old × (rs ≡ said ++ records))
       at (inl before) (inl a) = inl (record { found = leaves.found; can_leave = before; are = inl a })
-      at (inl before) (inr a) = inr (up (failed.first first) leaves.found before, behind a.1)
+      at (inl before) (inr (inl a)) = inr (up (failed.first first) leaves.found before, behind a.1)
       at (inr both) (inl a) =
           let long = both.1 ∙ ap (λ (xs : List (Record Global)). xs ++ map (lessened less) records) (now both.0) in
-          inr (both.0, a.1 ∙ sym (append-nil said) ∙ ap (λ (xs : List (Record Global)). said ++ xs) (empty a.0 long))
-      at (inr both) (inr a) = inr (both.0, behind a.1)
+          inr (both.0, a.1 ∙ (sym (append-nil said) ∙ ap (λ (xs : List (Record Global)). said ++ xs) (empty a.0 long)))
+      at (inr both) (inr (inl a)) = inr (both.0, behind a.1)
+      at before (inr (inr a)) = absurd (cc (a.0))

@@ -1,4 +1,5 @@
 -- The drafts take the place of the records.
+use Rattle.std.proofs.Props.{props}
 use Rattle.std.proofs.Common.{◌≡◌, ◌⊎◌, ℕ, ◌<◌, List, length, take, drop, refl, sym, subst, ◌∙◌, inl, inr}
 use Rattle.std.specs.Prelude.{Result, Ok, Err}
 use Rattle.std.specs.Global.{Global}
@@ -9,14 +10,14 @@ use Rattle.ups_ledger.specs.declared.fault.LedgerFault.{LedgerFault}
 use Rattle.ups_lasting.specs.declared.draft_ledger.DraftLedger.{Ghosts}
 use Rattle.ups_lasting.specs.declared.stage.Follow.{Follow}
 use Rattle.ups_lasting.specs.declared.stage.Stage.TheVariants.{Following}
-use Rattle.ups_lasting.specs.Exchanging.{StandsIf, Drafts, HasExchanged, StaysOrFollows}
+use Rattle.ups_lasting.specs.declared.following.Followed.{Followed}
+use Rattle.ups_lasting.specs.declared.following.Followed.TheVariants.{Drafted, Exchanged, Doubtful}
+use Rattle.ups_lasting.specs.Exchanging.{StandsIf, Drafts, Follows, HasExchanged, MayHaveExchanged, MayTakePlace, EndsExchange, TakesPlace}
 use Rattle.ups_lasting.specs.Slices.{Stays}
 use Rattle.ups_lasting.specs.Stages.{Agrees, StandsBy, IsFollowed}
 use Rattle.ups_lasting.specs.Standing.{firsts}
-use Rattle.std.specs.Result.{IsErr}
-use Rattle.ups_compact.specs.declared.shifts.Shift.{Shift}
-use Rattle.ups_lasting.specs.declared.compaction.Tended.{Tended}
-use Rattle.ups_lasting.specs.Tending.{StandsBySome, UnlessExchanged, IfExchanged}
+use mathlib.Core.Logic.{∥∥₁_elim, ∥∥₁_map}
+use Rattle.ups_lasting.specs.Tending.{IsAgreed, StandsBySome}
 use Rattle.ups_lasting.proofs.Followed.{follows_all, all_read}
 use Rattle.ups_lasting.proofs.Slices.{stays_then}
 
@@ -26,27 +27,32 @@ module _ {L : Type 0} (g : Ghosts L) (a m b : L) (f : Follow) (v : List (Record 
       subst (λ (x : List (Record Global)). StandsBy s (g.kept a) x (less_by f.shifts)) (sym (is ∙ was))
       (follows_all s (g.kept a) (firsts f.drafts.items) (less_by f.shifts) f.from f.read (all_read (g.kept a) v f.read most some read none) i)
 
-  pub exchange_stays : Stays g a m → (g.is_sound m → g.drafts m ≡ g.drafts a) → (g.is_sound m → v ≡ take most (drop f.read (g.kept a))) → length v ≡ 0
-      → (g.is_sound b → g.is_sound m) → (g.is_first b → g.is_first m)
-      → (g.is_first b → (rs : List (Record Global)) → g.recovers b rs → g.recovers m rs ⊎ (g.is_sound m × (rs ≡ g.drafts m))) → StaysOrFollows g a b f
-  exchange_stays st drafts read none sound first crash = record {
-    sound = λ k. st.sound (sound k);
-    first = λ k. st.first (first k);
-    crash = λ k rs can. elim (crash k rs can) [
-      | inl before ↦ elim (st.crash (first k) rs before) [ inl x ↦ inl x | inr both ↦ inr (both.0, inl both.1) ]
+  pub may_have_exchanged : Stays g a m → (g.is_sound m → g.drafts m ≡ g.drafts a) → (g.is_sound m → v ≡ take most (drop f.read (g.kept a))) → length v ≡ 0 → MayTakePlace g m b → MayHaveExchanged g a b f
+  may_have_exchanged st drafts read none may = record {
+    unsound = may.unsound;
+    first = λ k. st.first (may.first k);
+    crash = λ k rs can. elim (may.crash k rs can) [
+      | inl before ↦ elim (st.crash (may.first k) rs before) [ inl x ↦ inl x | inr both ↦ inr (both.0, inl both.1) ]
       | inr both ↦ inr (st.sound both.0, inr (stands_if rs (read both.0) none (both.1 ∙ drafts both.0)))
     ];
   }
 
-  pub exchanged : (g.is_sound m → g.drafts m ≡ g.drafts a) → (g.is_sound m → v ≡ take most (drop f.read (g.kept a))) → length v ≡ 0
-      → (g.is_sound b → g.is_sound m) → (g.is_sound b → g.kept b ≡ g.drafts m)
-      → (g.is_first b → (rs : List (Record Global)) → g.recovers b rs → g.is_sound b × (rs ≡ g.kept b)) → HasExchanged g a b f f
-  exchanged drafts read none sound put left = record {
-    kept = λ k was. put k ∙ (drafts (sound k) ∙ was);
-    stands = λ k s i was. follows_all s (g.kept a) (firsts f.drafts.items) (less_by f.shifts) f.from f.read (all_read (g.kept a) v f.read most some (read (sound k)) none) i;
+  pub exchanged : Stays g a m → (g.is_sound m → g.drafts m ≡ g.drafts a) → (g.is_sound m → v ≡ take most (drop f.read (g.kept a))) → length v ≡ 0 → TakesPlace g m b → HasExchanged g a b f f
+  exchanged st drafts read none takes = record {
+    kept = λ k was. takes.put k ∙ (drafts (takes.sound k) ∙ was);
+    stands = λ k s i was. follows_all s (g.kept a) (firsts f.drafts.items) (less_by f.shifts) f.from f.read (all_read (g.kept a) v f.read most some (read (takes.sound k)) none) i;
     shifts = refl;
-    left = left;
+    sound = λ k. st.sound (takes.sound k);
+    first = λ k. st.first (takes.first k);
+    left = takes.left;
   }
+
+  -- by what the exchange has come to
+  pub ends_follows : (r : Result Followed LedgerFault) → Stays g a m → (g.is_sound m → g.drafts m ≡ g.drafts a) → (g.is_sound m → v ≡ take most (drop f.read (g.kept a))) → length v ≡ 0 → EndsExchange g m b r → Follows g a b f f r
+  ends_follows (Ok Drafted) st drafts read none t = absurd t
+  ends_follows (Ok Exchanged) st drafts read none t = exchanged st drafts read none t
+  ends_follows (Ok (Doubtful fault)) st drafts read none t = may_have_exchanged st drafts read none t
+  ends_follows (Err fault) st drafts read none t = stays_then g a m b st t
 
   pub drafts_more : (h : Follow) → Stays g a m → Stays g m b → (g.is_sound m → g.drafts m ≡ g.drafts a) → (g.is_sound m → v ≡ take most (drop f.read (g.kept a)))
       → ((s : Settings) → (content : List (Record Global)) → v ≡ take most (drop f.read content) → IsFollowed s content f → IsFollowed s content h)
@@ -57,10 +63,20 @@ module _ {L : Type 0} (g : Ghosts L) (a m b : L) (f : Follow) (v : List (Record 
     put = λ k was. put k (drafts (y.sound k) ∙ was);
   }
 
+-- a call that fails while the ledger is open
+pub stays_open : {L : Type 0} (g : Ghosts L) (m b : L) → ((l : L) → g.is_sound l → (rs : List (Record Global)) → g.recovers l rs → rs ≡ g.kept l) → (g.is_first b → (rs : List (Record Global)) → g.recovers b rs → g.is_sound b)
+    → (g.is_sound b → g.kept b ≡ g.kept m) → (g.is_sound b → g.is_sound m) → (g.is_first b → g.is_first m) → Stays g m b
+stays_open g m b settled up same sound first = record {
+  same = same;
+  sound = sound;
+  first = first;
+  crash = λ k rs can. let s = up k rs can in inr (sound s, settled b s rs can ∙ same s);
+}
+
 -- what a crash leaves, where the drafts are right
-pub leaves_some : {L : Type 0} (g : Ghosts L) (s : Settings) (a b : L) (f : Follow) → (g.is_sound a → Agrees s (Following f) (g.kept a) (g.drafts a)) → StaysOrFollows g a b f
+pub leaves_some : {L : Type 0} (g : Ghosts L) (s : Settings) (a b : L) (f : Follow) → (g.is_sound a → IsAgreed s (Following f) (g.kept a) (g.drafts a)) → MayHaveExchanged g a b f
     → g.is_first b → (rs : List (Record Global)) → g.recovers b rs → g.recovers a rs ⊎ (g.is_sound a × ((rs ≡ g.kept a) ⊎ StandsBySome s (g.kept a) rs))
-leaves_some g s a b f agrees st k rs can = elim (st.crash k rs can) [
+leaves_some g s a b f agrees may k rs can = elim (may.crash k rs can) [
   | inl before ↦ inl before
   | inr both ↦ inr (both.0, some both.0 both.1)
 ]
@@ -68,14 +84,13 @@ leaves_some g s a b f agrees st k rs can = elim (st.crash k rs can) [
     some : g.is_sound a → (rs ≡ g.kept a) ⊎ StandsIf g a f rs → (rs ≡ g.kept a) ⊎ StandsBySome s (g.kept a) rs
     some sound which = elim which [
       | inl same ↦ inl same
-      | inr stands ↦ inr ∣ (less_by f.shifts, stands s (agrees sound).0 (agrees sound).1) ∣₁
+      | inr stands ↦ inr (∥∥₁_map (agrees sound) (λ x. (less_by f.shifts, stands s x.0 x.1)))
     ]
 
--- an error is no exchange
-pub unless_error : (r : Result Tended LedgerFault) (P : Type 0) → IsErr r → P → UnlessExchanged r P
-unless_error (Ok x) P e p = absurd cc
-unless_error (Err x) P e p = p
+-- the drafts stand for the records, where they are right
+pub stands_agreed : {L : Type 0} (g : Ghosts L) (s : Settings) (a : L) (f : Follow) (rs : List (Record Global)) → IsAgreed s (Following f) (g.kept a) (g.drafts a) → StandsIf g a f rs → StandsBy s (g.kept a) rs (less_by f.shifts)
+stands_agreed g s a f rs agreed stands = λ by are once. ∥∥₁_elim agreed squash₁ (λ x. stands s x.0 x.1 by are once)
 
-pub if_error : (r : Result Tended LedgerFault) (P : List Shift → List (Record Global) → Type 0) → IsErr r → IfExchanged r P
-if_error (Ok x) P e = absurd cc
-if_error (Err x) P e = tt
+-- the drafts are those that were noted, where they are right
+pub noted_agreed : {L : Type 0} (g : Ghosts L) (s : Settings) (a : L) (f : Follow) (rs noted : List (Record Global)) → IsAgreed s (Following f) (g.kept a) (g.drafts a) → (g.drafts a ≡ firsts f.drafts.items → rs ≡ noted) → rs ≡ noted
+noted_agreed g s a f rs noted agreed put = ∥∥₁_elim agreed (hlevel props) (λ x. put x.1)

@@ -183,3 +183,13 @@ stands_through through s other content said extra less stands more = λ log writ
       shifted = through s (past m.by) (past k.by) (past log) m.shifted k.shifted;
       numbers = λ w. both_shifts s (past m.by) (past k.by) (past log) w m.shifted k.shifted ∙ ap (λ (n : ℕ). n + shift s (past k.by) (past log) w) (m.numbers w) ∙ ap (λ (n : ℕ). extra w + n) (k.numbers w);
     }))
+
+-- shifts that are the same make the same stand
+pub stands_alike : (s : Settings) (content said : List (Record Global)) (less other : List ℕ → ℕ) → ((w : List ℕ) → less w ≡ other w) → StandsForLog s content said less → StandsForLog s content said other
+stands_alike s content said less other same stands = λ log writable are l once. ∥∥₁_map (stands log writable are l once) (λ k. record {
+  by = k.by;
+  writable = k.writable;
+  are = k.are;
+  shifted = k.shifted;
+  numbers = λ w. k.numbers w ∙ same w;
+})

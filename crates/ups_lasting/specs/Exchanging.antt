@@ -1,5 +1,6 @@
--- What a slice does that puts the drafts in the place of the records, once nothing is left to draft.
-use Rattle.std.specs.Prelude.{◌≡◌, ◌⊎◌, Bool, true, false, List, Result, Ok, Err}
+-- What a slice does that drafts what was appended meanwhile, or puts the drafts in the place of the records once nothing is left
+-- to draft.
+use Rattle.std.specs.Prelude.{◌≡◌, ◌⊎◌, List, Result, Ok, Err}
 use Rattle.std.specs.Global.{Global}
 use Rattle.ups_life.specs.Settings.{Settings}
 use Rattle.ups_journal.specs.declared.record.Record.{Record}
@@ -7,6 +8,8 @@ use Rattle.ups_compact.specs.Shifts.{less_by}
 use Rattle.ups_ledger.specs.declared.fault.LedgerFault.{LedgerFault}
 use Rattle.ups_lasting.specs.declared.draft_ledger.DraftLedger.{Ghosts}
 use Rattle.ups_lasting.specs.declared.stage.Follow.{Follow}
+use Rattle.ups_lasting.specs.declared.following.Followed.{Followed}
+use Rattle.ups_lasting.specs.declared.following.Followed.TheVariants.{Drafted, Exchanged, Doubtful}
 use Rattle.ups_lasting.specs.Slices.{Stays}
 use Rattle.ups_lasting.specs.Stages.{IsFollowed, StandsBy}
 use Rattle.ups_lasting.specs.Standing.{firsts}
@@ -27,16 +30,38 @@ module _ {L : Type 0} (g : Ghosts L) where
     pub kept : g.is_sound new → g.drafts old ≡ firsts f.drafts.items → g.kept new ≡ firsts h.drafts.items
     pub stands : g.is_sound new → StandsIf old f (firsts h.drafts.items)
     pub shifts : h.shifts ≡ f.shifts
-    pub left : g.is_first new → (rs : List (Record Global)) → g.recovers new rs → g.is_sound new × (rs ≡ g.kept new)
-
-  -- the one, the other, or neither
-  abbrev pub Follows : L → L → Follow → Follow → Result Bool LedgerFault → Type 0
-  Follows old new f h (Ok true) = HasExchanged old new f h
-  Follows old new f h (Ok false) = Drafts old new f h
-  Follows old new f h (Err fault) = g.is_sound new → g.kept new ≡ g.kept old
-
-  -- no crash leaves other records than it could leave before, or the same, or some that stand for them
-  pub record StaysOrFollows (old new : L) (f : Follow) : Type 0 where
     pub sound : g.is_sound new → g.is_sound old
     pub first : g.is_first new → g.is_first old
+    pub left : g.is_first new → (rs : List (Record Global)) → g.recovers new rs → g.is_sound new × (rs ≡ g.kept new)
+
+  -- Nobody knows whether the drafts are the records: a crash leaves what it could leave before, or the records, or some that
+  -- stand for them.
+  pub record MayHaveExchanged (old new : L) (f : Follow) : Type 0 where
+    pub unsound : ¬ g.is_sound new
+    pub first : g.is_first new → g.is_first old
     pub crash : g.is_first new → (rs : List (Record Global)) → g.recovers new rs → g.recovers old rs ⊎ (g.is_sound old × ((rs ≡ g.kept old) ⊎ StandsIf old f rs))
+
+  -- what following has come to
+  abbrev pub Follows : L → L → Follow → Follow → Result Followed LedgerFault → Type 0
+  Follows old new f h (Ok Drafted) = Drafts old new f h
+  Follows old new f h (Ok Exchanged) = HasExchanged old new f h
+  Follows old new f h (Ok (Doubtful fault)) = MayHaveExchanged old new f
+  Follows old new f h (Err fault) = Stays g old new
+
+  -- the drafts have taken the place of the records, or nobody knows, or the records stay
+  pub record TakesPlace (old new : L) : Type 0 where
+    pub put : g.is_sound new → g.kept new ≡ g.drafts old
+    pub sound : g.is_sound new → g.is_sound old
+    pub first : g.is_first new → g.is_first old
+    pub left : g.is_first new → (rs : List (Record Global)) → g.recovers new rs → g.is_sound new × (rs ≡ g.kept new)
+
+  pub record MayTakePlace (old new : L) : Type 0 where
+    pub unsound : ¬ g.is_sound new
+    pub first : g.is_first new → g.is_first old
+    pub crash : g.is_first new → (rs : List (Record Global)) → g.recovers new rs → g.recovers old rs ⊎ (g.is_sound old × (rs ≡ g.drafts old))
+
+  abbrev pub EndsExchange : L → L → Result Followed LedgerFault → Type 0
+  EndsExchange old new (Ok Drafted) = ⊥
+  EndsExchange old new (Ok Exchanged) = TakesPlace old new
+  EndsExchange old new (Ok (Doubtful fault)) = MayTakePlace old new
+  EndsExchange old new (Err fault) = Stays g old new

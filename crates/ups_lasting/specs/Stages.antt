@@ -1,6 +1,6 @@
 -- The stages of a compaction beside a ledger that grows: what each of them has to do with the records of the ledger, its content,
 -- and with its drafts. Histories here have their oldest entry first.
-use Rattle.std.specs.Prelude.{◌≡◌, ◌≤◌, ℕ, false, List, [], ◌++◌, length, map, take, drop, All}
+use Rattle.std.specs.Prelude.{◌≡◌, ◌≤◌, ℕ, false, List, [], ◌++◌, length, map, take, drop, All, Option, None, Some}
 use Rattle.std.specs.Global.{Global}
 use Rattle.ups_life.specs.declared.entry.Entry.{Entry}
 use Rattle.ups_life.specs.Settings.{Settings}
@@ -14,6 +14,7 @@ use Rattle.ups_compact.specs.Compacting.{has_title_twice, left_for, steps_needed
 use Rattle.ups_compact.specs.Course.{IsLeftOf}
 use Rattle.ups_compact.specs.Shifting.{shift}
 use Rattle.ups_compact.specs.Shifts.{less_by}
+use Rattle.ups_compact.specs.declared.shifts.Shift.{Shift}
 use Rattle.ups_restore.specs.Lessening.{lessened}
 use Rattle.ups_lasting.specs.Standing.{firsts, Stand}
 use Rattle.ups_lasting.specs.declared.stage.Carriage.{Carriage}
@@ -93,3 +94,12 @@ Agrees s (Surveying whole) content drafts = IsSurveyed s content whole × (draft
 Agrees s (Carrying c) content drafts = IsCarried s content c × (drafts ≡ firsts c.drafts.items)
 Agrees s (Finishing f) content drafts = IsFinished s content f × (drafts ≡ firsts f.drafts.items)
 Agrees s (Following f) content drafts = IsFollowed s content f × (drafts ≡ firsts f.drafts.items)
+
+-- the shifts of the drafts that are about to take the place of the records
+abbrev pub coming : Stage → Option (List Shift)
+coming Resting = None
+coming Clearing = None
+coming (Surveying whole) = None
+coming (Carrying c) = None
+coming (Finishing f) = None
+coming (Following f) = Some f.shifts

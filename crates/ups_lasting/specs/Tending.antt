@@ -1,5 +1,5 @@
 -- What a slice of a compaction does, by its result.
-use Rattle.std.specs.Prelude.{◌≡◌, ◌⊎◌, ℕ, List, Result, Ok, Err}
+use Rattle.std.specs.Prelude.{◌≡◌, ◌⊎◌, ℕ, List, Result, Ok, Err, Some}
 use Rattle.std.specs.Global.{Global}
 use Rattle.ups_life.specs.Settings.{Settings}
 use Rattle.ups_journal.specs.declared.record.Record.{Record}
@@ -10,34 +10,58 @@ use Rattle.ups_lasting.specs.declared.draft_ledger.DraftLedger.{Ghosts}
 use Rattle.ups_lasting.specs.declared.stage.Stage.{Stage}
 use Rattle.ups_lasting.specs.declared.compaction.Tended.{Tended}
 use Rattle.ups_lasting.specs.declared.compaction.Tended.TheVariants as tended
-use Rattle.ups_lasting.specs.Stages.{Agrees, StandsBy}
+use Rattle.ups_lasting.specs.Stages.{Agrees, StandsBy, coming}
 use Rattle.ups_lasting.specs.Standing.{firsts}
 
 -- unless the drafts took the place of the records, this holds
 abbrev pub UnlessExchanged : Result Tended LedgerFault → Type 0 → Type 0
 UnlessExchanged (Ok tended.Going) P = P
 UnlessExchanged (Ok tended.Resting) P = P
-UnlessExchanged (Ok (tended.Exchanged shifts records)) P = Unit {0}
+UnlessExchanged (Ok (tended.Exchanged records)) P = Unit {0}
+UnlessExchanged (Ok (tended.Doubtful records fault)) P = P
 UnlessExchanged (Err fault) P = P
 
--- if the drafts took the place of the records, this holds of the shifts and of the drafts
-abbrev pub IfExchanged : Result Tended LedgerFault → (List Shift → List (Record Global) → Type 0) → Type 0
+-- unless the drafts took the place of the records, or nobody knows whether they did, this holds
+abbrev pub IfStaying : Result Tended LedgerFault → Type 0 → Type 0
+IfStaying (Ok tended.Going) P = P
+IfStaying (Ok tended.Resting) P = P
+IfStaying (Ok (tended.Exchanged records)) P = Unit {0}
+IfStaying (Ok (tended.Doubtful records fault)) P = Unit {0}
+IfStaying (Err fault) P = P
+
+-- if the drafts took the place of the records, this holds of the drafts
+abbrev pub IfExchanged : Result Tended LedgerFault → (List (Record Global) → Type 0) → Type 0
 IfExchanged (Ok tended.Going) P = Unit {0}
 IfExchanged (Ok tended.Resting) P = Unit {0}
-IfExchanged (Ok (tended.Exchanged shifts records)) P = P shifts (firsts records.items)
+IfExchanged (Ok (tended.Exchanged records)) P = P (firsts records.items)
+IfExchanged (Ok (tended.Doubtful records fault)) P = Unit {0}
 IfExchanged (Err fault) P = Unit {0}
+
+-- if nobody knows whether the drafts took the place of the records, this holds
+abbrev pub IfDoubtful : Result Tended LedgerFault → Type 0 → Type 0
+IfDoubtful (Ok tended.Going) P = Unit {0}
+IfDoubtful (Ok tended.Resting) P = Unit {0}
+IfDoubtful (Ok (tended.Exchanged records)) P = Unit {0}
+IfDoubtful (Ok (tended.Doubtful records fault)) P = P
+IfDoubtful (Err fault) P = Unit {0}
 
 -- some shifts make these records stand for those
 abbrev pub StandsBySome : Settings → List (Record Global) → List (Record Global) → Type 0
 StandsBySome s before after = ∥ ((less : List ℕ → ℕ) × StandsBy s before after less) ∥₁
 
+-- the stage agrees with the records and the drafts of a ledger, as far as that is known
+abbrev pub IsAgreed : Settings → Stage → List (Record Global) → List (Record Global) → Type 0
+IsAgreed s stage content drafts = ∥ Agrees s stage content drafts ∥₁
+
 module _ {L : Type 0} (g : Ghosts L) where
   -- one slice
-  pub record Turns (s : Settings) (old new : L) (after : Stage) (result : Result Tended LedgerFault) : Type 0 where
-    pub agrees : g.is_sound new → Agrees s after (g.kept new) (g.drafts new)
+  pub record Turns (s : Settings) (old new : L) (before after : Stage) (result : Result Tended LedgerFault) : Type 0 where
+    pub agrees : g.is_sound new → IsAgreed s after (g.kept new) (g.drafts new)
     pub same : UnlessExchanged result (g.is_sound new → g.kept new ≡ g.kept old)
-    pub exchanged : IfExchanged result (λ shifts records. g.is_sound new → (g.kept new ≡ records) × StandsBy s (g.kept old) records (less_by shifts))
+    pub exchanged : IfExchanged result (λ records. (extra : List Shift) × (coming before ≡ Some extra) × (g.is_sound new → (g.kept new ≡ records) × StandsBy s (g.kept old) records (less_by extra)))
     pub sound : g.is_sound new → g.is_sound old
     pub first : g.is_first new → g.is_first old
-    pub crash : g.is_first new → (rs : List (Record Global)) → g.recovers new rs → g.recovers old rs ⊎ (g.is_sound old × ((rs ≡ g.kept old) ⊎ StandsBySome s (g.kept old) rs))
-    pub left : IfExchanged result (λ shifts records. g.is_first new → (rs : List (Record Global)) → g.recovers new rs → g.is_sound new × (rs ≡ g.kept new))
+    pub crash : IfStaying result (g.is_first new → (rs : List (Record Global)) → g.recovers new rs → g.recovers old rs ⊎ (g.is_sound old × (rs ≡ g.kept old)))
+    pub left : IfExchanged result (λ records. g.is_first new → (rs : List (Record Global)) → g.recovers new rs → g.is_sound new × (rs ≡ g.kept new))
+    pub unsound : IfDoubtful result (¬ g.is_sound new)
+    pub doubt : IfDoubtful result (g.is_first new → (rs : List (Record Global)) → g.recovers new rs → g.recovers old rs ⊎ (g.is_sound old × ((rs ≡ g.kept old) ⊎ StandsBySome s (g.kept old) rs)))

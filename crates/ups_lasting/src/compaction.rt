@@ -1,15 +1,16 @@
 //! A compaction of a ledger's records in slices, beside the appends.
 
-ghost use Rattle.std.specs.Prelude.{◌≡◌, ◌⊎◌, [], List};
+ghost use Rattle.std.specs.Prelude.{◌≡◌, ◌⊎◌, ◌+◌, [], ℕ, List, Some, IfOk, IfSome};
 ghost use Rattle.std.specs.Global.{Global};
 ghost use Rattle.ups_journal.specs.declared.record.Record.{Record};
 ghost use Rattle.ups_life.specs.Settings.{IsMoment};
+ghost use Rattle.ups_compact.specs.declared.shifts.Shift.{Shift};
 ghost use Rattle.ups_compact.specs.Shifts.{less_by};
-ghost use Rattle.ups_lasting.specs.Stages.{Agrees, StandsBy};
-ghost use Rattle.ups_lasting.specs.Tending.{UnlessExchanged, IfExchanged, StandsBySome, Turns};
+ghost use Rattle.ups_lasting.specs.Stages.{StandsBy, coming};
+ghost use Rattle.ups_lasting.specs.Tending.{UnlessExchanged, IfStaying, IfExchanged, IfDoubtful, IsAgreed, StandsBySome, Turns};
 
 use crate::draft_ledger::DraftLedger;
-use crate::following::follow_on;
+use crate::following::{Followed, follow_on};
 use crate::moving::move_on;
 use crate::stage::{Follow, Stage};
 use http_server::Log;
@@ -29,10 +30,15 @@ pub enum Tended {
     Resting,
     /// The drafts have taken the place of the records. The compaction is done.
     Exchanged {
-        /// By how much the numbers of events are less in the new records.
-        shifts: Shifts<Global>,
         /// The new records, for contracts alone.
         records: Log<Record<Global>, ()>,
+    },
+    /// Nobody knows whether the drafts have taken the place of the records. The compaction is done.
+    Doubtful {
+        /// The drafts, for contracts alone.
+        records: Log<Record<Global>, ()>,
+        /// Why nobody knows.
+        fault: LedgerFault,
     },
 }
 
@@ -66,12 +72,12 @@ impl Compaction {
         }
     }
 
-    /// Begins a compaction if none is under way.
-    pub fn begin(&mut self)
-        ensures agrees { (content drafts : List (Record Global)) → Agrees self.old.empty.settings self.old.stage content drafts → Agrees self.new.empty.settings self.new.stage content drafts }
+    /// Begins a compaction if one is due and none is under way.
+    pub fn begin_if(&mut self, is_due: bool)
+        ensures agrees { (content drafts : List (Record Global)) → IsAgreed self.old.empty.settings self.old.stage content drafts → IsAgreed self.new.empty.settings self.new.stage content drafts }
         ensures settings { self.new.empty.settings ≡ self.old.empty.settings }
     {
-        if self.is_resting() {
+        if is_due && self.is_resting() {
             self.stage = Stage::Clearing;
         }
     }
@@ -84,6 +90,28 @@ impl Compaction {
         self.stage = Stage::Resting;
     }
 
+    /// Returns the sums of some shifts and of those of the drafts, if these are about to take the place of the records.
+    ///
+    /// # Errors
+    ///
+    /// Full if memory runs out, or a sum is above `u64::MAX`.
+    pub fn coming_with(
+        &self,
+        alloc: Global,
+        base: &Shifts<Global>,
+    ) -> Result<Shifts<Global>, LedgerFault>
+        ensures { IfOk result (λ total. IfSome (coming self.now.stage) (λ extra. (w : List ℕ) → less_by total w ≡ less_by extra w + less_by base.now w)) }
+    {
+        let sums = match &self.stage {
+            Stage::Following(f) => f.shifts.and(alloc, base),
+            _ => Ok(Shifts::none(alloc)),
+        };
+        match sums {
+            Ok(total) => Ok(total),
+            Err(_) => Err(LedgerFault::Full),
+        }
+    }
+
     /// Drafts what was appended meanwhile, or puts the drafts in the place of the records.
     ///
     /// Errors: those of the ledger; Full.
@@ -94,22 +122,23 @@ impl Compaction {
         f: Follow,
     ) -> Result<Tended, LedgerFault>
         requires resting { self.old.stage ≡ Stage.Resting }
-        requires agrees { D.is_sound ledger.old → Agrees self.old.empty.settings (Stage.Following f) (D.kept ledger.old) (D.drafts ledger.old) }
-        ensures turns { Turns D.DraftLedger self.old.empty.settings ledger.old ledger.new self.new.stage result }
+        requires agrees { D.is_sound ledger.old → IsAgreed self.old.empty.settings (Stage.Following f) (D.kept ledger.old) (D.drafts ledger.old) }
+        ensures turns { Turns D.DraftLedger self.old.empty.settings ledger.old ledger.new (Stage.Following f) self.new.stage result }
         ensures settings { self.new.empty.settings ≡ self.old.empty.settings }
     {
         let mut f = f;
-        if !follow_on(alloc, ledger, &mut f)? {
-            self.stage = Stage::Following(f);
-            return Ok(Tended::Going);
+        match follow_on(alloc, ledger, &mut f) {
+            Ok(Followed::Drafted) => {
+                self.stage = Stage::Following(f);
+                Ok(Tended::Going)
+            }
+            Ok(Followed::Exchanged) => Ok(Tended::Exchanged { records: f.drafts }),
+            Ok(Followed::Doubtful(fault)) => Ok(Tended::Doubtful {
+                records: f.drafts,
+                fault,
+            }),
+            Err(fault) => Err(fault),
         }
-        let Follow {
-            shifts,
-            from: _,
-            read: _,
-            drafts: records,
-        } = f;
-        Ok(Tended::Exchanged { shifts, records })
     }
 
     /// Does a slice of the compaction.
@@ -122,17 +151,20 @@ impl Compaction {
         moment: u64,
     ) -> Result<Tended, LedgerFault>
         requires moment { IsMoment moment }
-        requires agrees { D.is_sound ledger.old → Agrees self.old.empty.settings self.old.stage (D.kept ledger.old) (D.drafts ledger.old) }
-        ensures turns { Turns D.DraftLedger self.old.empty.settings ledger.old ledger.new self.new.stage result }
+        requires agrees { D.is_sound ledger.old → IsAgreed self.old.empty.settings self.old.stage (D.kept ledger.old) (D.drafts ledger.old) }
+        ensures turns { Turns D.DraftLedger self.old.empty.settings ledger.old ledger.new self.old.stage self.new.stage result }
         ensures settings { self.new.empty.settings ≡ self.old.empty.settings }
     {
         match replace(&mut self.stage, Stage::Resting) {
             Stage::Resting => Ok(Tended::Resting),
             Stage::Following(f) => self.follow(alloc, ledger, f),
-            stage => {
-                self.stage = move_on(alloc, ledger, &self.empty, stage, moment)?;
-                Ok(Tended::Going)
-            }
+            stage => match move_on(alloc, ledger, &self.empty, stage, moment) {
+                Ok(next) => {
+                    self.stage = next;
+                    Ok(Tended::Going)
+                }
+                Err(fault) => Err(fault),
+            },
         }
     }
 
@@ -143,7 +175,7 @@ impl Compaction {
     /// # Errors
     ///
     /// Those of the ledger; Full also if memory runs out, or if the records are not those of a history that is legal with
-    /// these settings. The compaction is then given up.
+    /// these settings. The compaction is then given up, and the records stay.
     pub fn tend<D: DraftLedger>(
         &mut self,
         alloc: Global,
@@ -151,15 +183,17 @@ impl Compaction {
         moment: u64,
     ) -> Result<Tended, LedgerFault>
         requires moment { IsMoment moment }
-        requires agrees { D.is_sound ledger.old → Agrees self.old.empty.settings self.old.stage (D.kept ledger.old) (D.drafts ledger.old) }
-        ensures agrees { D.is_sound ledger.new → Agrees self.new.empty.settings self.new.stage (D.kept ledger.new) (D.drafts ledger.new) }
+        requires agrees { D.is_sound ledger.old → IsAgreed self.old.empty.settings self.old.stage (D.kept ledger.old) (D.drafts ledger.old) }
+        ensures agrees { D.is_sound ledger.new → IsAgreed self.new.empty.settings self.new.stage (D.kept ledger.new) (D.drafts ledger.new) }
         ensures settings { self.new.empty.settings ≡ self.old.empty.settings }
         ensures same { UnlessExchanged result (D.is_sound ledger.new → D.kept ledger.new ≡ D.kept ledger.old) }
-        ensures exchanged { IfExchanged result (λ shifts records. D.is_sound ledger.new → (D.kept ledger.new ≡ records) × StandsBy self.old.empty.settings (D.kept ledger.old) records (less_by shifts)) }
+        ensures exchanged { IfExchanged result (λ records. (extra : List Shift) × (coming self.old.stage ≡ Some extra) × (D.is_sound ledger.new → (D.kept ledger.new ≡ records) × StandsBy self.old.empty.settings (D.kept ledger.old) records (less_by extra))) }
         ensures sound { D.is_sound ledger.new → D.is_sound ledger.old }
         ensures first { D.is_first ledger.new → D.is_first ledger.old }
-        ensures crash { D.is_first ledger.new → (rs : List (Record Global)) → D.recovers ledger.new rs → D.recovers ledger.old rs ⊎ (D.is_sound ledger.old × ((rs ≡ D.kept ledger.old) ⊎ StandsBySome self.old.empty.settings (D.kept ledger.old) rs)) }
-        ensures left { IfExchanged result (λ shifts records. D.is_first ledger.new → (rs : List (Record Global)) → D.recovers ledger.new rs → D.is_sound ledger.new × (rs ≡ D.kept ledger.new)) }
+        ensures crash { IfStaying result (D.is_first ledger.new → (rs : List (Record Global)) → D.recovers ledger.new rs → D.recovers ledger.old rs ⊎ (D.is_sound ledger.old × (rs ≡ D.kept ledger.old))) }
+        ensures left { IfExchanged result (λ records. D.is_first ledger.new → (rs : List (Record Global)) → D.recovers ledger.new rs → D.is_sound ledger.new × (rs ≡ D.kept ledger.new)) }
+        ensures unsound { IfDoubtful result (¬ D.is_sound ledger.new) }
+        ensures doubt { IfDoubtful result (D.is_first ledger.new → (rs : List (Record Global)) → D.recovers ledger.new rs → D.recovers ledger.old rs ⊎ (D.is_sound ledger.old × ((rs ≡ D.kept ledger.old) ⊎ StandsBySome self.old.empty.settings (D.kept ledger.old) rs))) }
     {
         self.turn(alloc, ledger, moment)
     }

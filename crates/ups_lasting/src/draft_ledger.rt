@@ -119,7 +119,8 @@ pub trait DraftLedger: Drop {
     ///
     /// # Errors
     ///
-    /// Full: nothing has changed. Write, Shut, Lost: nobody knows which of them count.
+    /// Full: nothing has changed. Write, Shut: nobody knows which of them count if the storage is not open then, which
+    /// [`Self::settle`] finds out. Lost: the ledger takes no more records.
     fn exchange(&mut self) -> Result<(), LedgerFault>
         ensures put { OnOk result (is_sound self.new → kept self.new ≡ drafts self.old) }
         ensures same { OnErr result (is_sound self.new → kept self.new ≡ kept self.old) }
@@ -127,4 +128,18 @@ pub trait DraftLedger: Drop {
         ensures first { is_first self.new → is_first self.old }
         ensures crash { is_first self.new → (rs : List (Record Global)) → recovers self.new rs → recovers self.old rs ⊎ (is_sound self.old × (rs ≡ drafts self.old)) }
         ensures left { OnOk result (is_first self.new → (rs : List (Record Global)) → recovers self.new rs → is_sound self.new × (rs ≡ kept self.new)) };
+
+    /// Opens the storage anew after an exchange of which nobody knows whether it was made, and returns whether it was: by
+    /// their number and their digest, the records are the drafts, or else those that counted before. Appends go on from
+    /// there.
+    ///
+    /// # Errors
+    ///
+    /// Shut if the storage can't be opened now, or no exchange is in doubt; Lost if the records are neither.
+    fn settle(&mut self) -> Result<bool, LedgerFault>
+        ensures anew { OnOk result (¬ is_first self.new) }
+        ensures same { is_sound self.new → kept self.new ≡ kept self.old }
+        ensures sound { is_sound self.new → is_sound self.old }
+        ensures first { is_first self.new → is_first self.old }
+        ensures crash { is_first self.new → (rs : List (Record Global)) → recovers self.new rs → recovers self.old rs };
 }

@@ -6,7 +6,7 @@ ghost use Rattle.ups_lasting.specs.Stages.{AreDrafted};
 ghost use Rattle.ups_lasting.specs.Standing.{firsts};
 
 use crate::draft_ledger::DraftLedger;
-use crate::growing::grow;
+use crate::ghost_records::grow;
 use crate::stage::SLICE;
 use http_server::Log;
 use std::alloc::Global;

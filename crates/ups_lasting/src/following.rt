@@ -4,7 +4,7 @@ ghost use Rattle.std.specs.Prelude.{◌≡◌, List, take, drop, OnOk};
 ghost use Rattle.std.specs.Global.{Global};
 ghost use Rattle.ups_life.specs.Settings.{Settings};
 ghost use Rattle.ups_journal.specs.declared.record.Record.{Record};
-ghost use Rattle.ups_lasting.specs.Exchanging.{Follows, StaysOrFollows};
+ghost use Rattle.ups_lasting.specs.Exchanging.{Follows, EndsExchange};
 ghost use Rattle.ups_lasting.specs.Slices.{Stays};
 ghost use Rattle.ups_lasting.specs.Stages.{IsFollowed};
 ghost use Rattle.ups_lasting.specs.Standing.{firsts};
@@ -16,6 +16,17 @@ use std::alloc::Global;
 use ups_journal::Record;
 use ups_ledger::LedgerFault;
 use ups_restore::lessen_all;
+
+/// What following has come to.
+#[derive(Clone, Copy, Debug, PartialEq, Eq)]
+pub enum Followed {
+    /// More is drafted.
+    Drafted,
+    /// The drafts have taken the place of the records.
+    Exchanged,
+    /// Nobody knows whether the drafts have taken the place of the records, after this fault.
+    Doubtful(LedgerFault),
+}
 
 /// Drafts records behind those that are drafted, with lesser numbers.
 ///
@@ -41,23 +52,43 @@ fn follow_with<D: DraftLedger>(
     Ok(())
 }
 
-/// Drafts the next records that were appended meanwhile, at most `SLICE`, with lesser numbers. If none is left, it puts the
-/// drafts in the place of the records. Returns whether it has done so.
+/// Puts the drafts in the place of the records.
 ///
-/// Errors: those of the ledger; Full.
+/// Errors: those of the ledger; the records stay.
+fn exchange<D: DraftLedger>(ledger: &mut D) -> Result<Followed, LedgerFault>
+    ensures { EndsExchange D.DraftLedger ledger.old ledger.new result }
+{
+    match ledger.exchange() {
+        Ok(()) => Ok(Followed::Exchanged),
+        Err(fault) => {
+            if ledger.is_up() {
+                return Err(fault);
+            }
+            Ok(Followed::Doubtful(fault))
+        }
+    }
+}
+
+/// Drafts the next records that were appended meanwhile, at most `SLICE`, with lesser numbers. If none is left, it puts the
+/// drafts in the place of the records.
+///
+/// Errors: those of the ledger; Full. The records stay.
 pub(crate) fn follow_on<D: DraftLedger>(
     alloc: Global,
     ledger: &mut D,
     f: &mut Follow,
-) -> Result<bool, LedgerFault>
+) -> Result<Followed, LedgerFault>
     ensures follows { Follows D.DraftLedger ledger.old ledger.new f.old f.new result }
-    ensures stays { StaysOrFollows D.DraftLedger ledger.old ledger.new f.old }
 {
-    let records = ledger.read(f.read as u64, SLICE)?;
+    let records = match ledger.read(f.read as u64, SLICE) {
+        Ok(records) => records,
+        Err(fault) => return Err(fault),
+    };
     if records.is_empty() {
-        ledger.exchange()?;
-        return Ok(true);
+        return exchange(ledger);
     }
-    follow_with(alloc, ledger, f, &records)?;
-    Ok(false)
+    match follow_with(alloc, ledger, f, &records) {
+        Ok(()) => Ok(Followed::Drafted),
+        Err(fault) => Err(fault),
+    }
 }

@@ -4,39 +4,28 @@ ghost use Rattle.std.specs.Prelude.{◌≡◌, ◌++◌, List, map, MatchResult}
 ghost use Rattle.ups_compact.specs.Shifts.{less_by};
 ghost use Rattle.ups_restore.specs.Lessening.{lessened};
 ghost use Rattle.ups_lasting.specs.Leaving.{Appended, Failed};
-ghost use Rattle.ups_lasting.specs.Standing.{firsts};
 
 use crate::draft_ledger::DraftLedger;
-use http_server::Log;
+use crate::ghost_records::GhostRecords;
 use std::alloc::Global;
 use ups_compact::Shifts;
 use ups_journal::Record;
 use ups_ledger::LedgerFault;
 use ups_restore::lessen_all;
 
-/// Adds records to those that only proofs read.
-pub(crate) fn grow(log: &mut Log<Record<Global>, ()>, records: &[Record<Global>])
-    ensures { firsts log.new.items ≡ firsts log.old.items ++ records.now }
-{
-    for stored in records {
-        let more = log.and(stored, &());
-        *log = more;
-    }
-}
-
 /// Appends records, and adds them to the content of the ledger.
 ///
 /// Errors: those of the ledger.
 fn append_all<D: DraftLedger>(
     ledger: &mut D,
-    content: &mut Log<Record<Global>, ()>,
+    content: &mut GhostRecords,
     records: &[Record<Global>],
 ) -> Result<(), LedgerFault>
-    ensures { MatchResult result (λ _. Appended D.DraftLedger ledger.old records.now ledger.new × (firsts content.new.items ≡ firsts content.old.items ++ records.now)) (λ _. Failed D.DraftLedger ledger.old records.now ledger.new × (firsts content.new.items ≡ firsts content.old.items)) }
+    ensures { MatchResult result (λ _. Appended D.DraftLedger ledger.old records.now ledger.new × (content.new ≡ content.old ++ records.now)) (λ _. Failed D.DraftLedger ledger.old records.now ledger.new × (content.new ≡ content.old)) }
 {
     match ledger.append(records) {
         Ok(()) => {
-            grow(content, records);
+            content.grow(records);
             Ok(())
         }
         Err(fault) => Err(fault),
@@ -50,10 +39,10 @@ pub(crate) fn append_less<D: DraftLedger>(
     alloc: Global,
     ledger: &mut D,
     shifts: &Shifts<Global>,
-    content: &mut Log<Record<Global>, ()>,
+    content: &mut GhostRecords,
     records: &[Record<Global>],
 ) -> Result<(), LedgerFault>
-    ensures { MatchResult result (λ _. Appended D.DraftLedger ledger.old (map (lessened (less_by shifts.now)) records.now) ledger.new × (firsts content.new.items ≡ firsts content.old.items ++ map (lessened (less_by shifts.now)) records.now)) (λ _. Failed D.DraftLedger ledger.old (map (lessened (less_by shifts.now)) records.now) ledger.new × (firsts content.new.items ≡ firsts content.old.items)) }
+    ensures { MatchResult result (λ _. Appended D.DraftLedger ledger.old (map (lessened (less_by shifts.now)) records.now) ledger.new × (content.new ≡ content.old ++ map (lessened (less_by shifts.now)) records.now)) (λ _. Failed D.DraftLedger ledger.old (map (lessened (less_by shifts.now)) records.now) ledger.new × (content.new ≡ content.old)) }
 {
     if shifts.is_none() {
         return append_all(ledger, content, records);

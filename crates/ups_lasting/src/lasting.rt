@@ -1,26 +1,34 @@
-//! A ledger whose records may be compacted while the server runs.
+//! A ledger whose records are compacted while the server runs.
 
-ghost use Rattle.std.specs.Prelude.{◌≡◌, ◌⊎◌, ◌++◌, ℕ, List, [], false, length, map};
+ghost use Rattle.std.specs.Prelude.{◌≡◌, ◌⊎◌, ◌+◌, ◌++◌, ℕ, List, [], false, true, length, map, IfSome, OnErr, OnOk};
 ghost use Rattle.std.specs.Global.{Global};
+ghost use Rattle.ups_journal.specs.Columns.{recorded};
 ghost use Rattle.ups_journal.specs.declared.record.Record.{Record};
+ghost use Rattle.ups_life.specs.Settings.{IsMoment};
 ghost use Rattle.ups_compact.specs.Shifts.{less_by};
-ghost use Rattle.ups_restore.specs.Lessening.{lessened};
-ghost use Rattle.ups_lasting.specs.Leaving.{LeavesOfLog};
-ghost use Rattle.ups_lasting.specs.Standing.{firsts, StandsForLog};
+ghost use Rattle.ups_lasting.specs.Doubting.{is_append, is_exchange, is_sure};
+ghost use Rattle.ups_lasting.specs.Leaving.{LeavesOfLog, LeavesStanding};
+ghost use Rattle.ups_lasting.specs.Stages.{coming};
+ghost use Rattle.ups_lasting.specs.Standing.{StandsForLog};
+ghost use Rattle.ups_lasting.specs.Tending.{IsAgreed};
 
+use crate::compaction::{Compaction, Tended};
+use crate::doubt::{Doubt, Successor};
 use crate::draft_ledger::DraftLedger;
-use crate::growing::{append_less, grow};
+use crate::ghost_records::GhostRecords;
+use crate::growing::append_less;
 use crate::laws::what_stands_for_a_log_goes_on;
-use http_server::Log;
 use std::alloc::Global;
+use std::mem::replace;
 use ups_compact::Shifts;
 use ups_journal::Record;
-use ups_ledger::{Ledger, LedgerFault};
+use ups_ledger::{Ledger, LedgerFault, Tending};
+use ups_life::MAX_MOMENT;
 use ups_manager::Manager;
 
-/// A ledger of all accepted requests, the log, over one with drafts whose records may be replaced by those of a history
-/// that stands for the log. The records of further requests are made less by the shifts between the two (PS3.4 CC.2.4)
-/// before they are appended. To the outside it has the records of the log.
+/// A ledger of all accepted requests, the log, over one with drafts whose records are replaced, now and then, by those of
+/// a compacted history that stands for the log. The records of further requests are made less by the shifts between the
+/// two (PS3.4 CC.2.4) before they are appended. To the outside it has the records of the log.
 #[derive(Drop)]
 pub struct LastingLedger<D: DraftLedger> {
     alloc: Global,
@@ -29,63 +37,206 @@ pub struct LastingLedger<D: DraftLedger> {
     told: u64,
     /// By how much the numbers of events are less in the content of the ledger than in the log.
     shifts: Shifts<Global>,
-    /// Whether nobody knows if the last records that were to be appended are committed.
-    is_doubtful: bool,
-    /// A manager without a history, which has the settings.
-    empty: Manager<Global>,
+    doubt: Doubt,
+    compaction: Compaction,
+    /// The number of records that the last compaction left, or 0 before the first.
+    compacted: u64,
     /// The records of the log, for contracts alone.
-    log: Log<Record<Global>, ()>,
+    log: GhostRecords,
     /// The records of the ledger, for contracts alone.
-    content: Log<Record<Global>, ()>,
+    content: GhostRecords,
     /// The records of the log that were to be appended and may be there, for contracts alone.
-    tried: Log<Record<Global>, ()>,
-    ghost counted: { length (firsts log.items) ≡ told },
-    ghost now: { D.is_sound ledger → D.kept ledger ≡ firsts content.items },
-    ghost left: { D.is_first ledger → (found : List (Record Global)) → D.recovers ledger found → ∥ (found ≡ firsts content.items) ⊎ (found ≡ firsts content.items ++ map (lessened (less_by shifts)) (firsts tried.items)) ∥₁ },
-    ghost stands: { StandsForLog empty.settings (firsts content.items) (firsts log.items) (less_by shifts) },
-    ghost sure: { is_doubtful ≡ false → firsts tried.items ≡ [] },
+    tried: GhostRecords,
+    ghost counted: { length log ≡ told },
+    ghost now: { D.is_sound ledger → D.kept ledger ≡ content },
+    ghost stands: { D.is_sound ledger → StandsForLog compaction.empty.settings content log (less_by shifts) },
+    ghost left: { LeavesStanding D.DraftLedger compaction.empty.settings ledger content log tried (less_by shifts) (is_exchange doubt) },
+    ghost agrees: { D.is_sound ledger → IsAgreed compaction.empty.settings compaction.stage (D.kept ledger) (D.drafts ledger) },
+    ghost sure: { is_append doubt ≡ false → tried ≡ [] },
+    ghost unsound: { is_exchange doubt ≡ true → ¬ D.is_sound ledger },
+}
+
+/// Returns a time, or the last one that has a date if it is later.
+fn dated(moment: u64) -> u64
+    ensures { IsMoment result }
+{
+    moment.min(MAX_MOMENT)
 }
 
 impl<D: DraftLedger> LastingLedger<D> {
-    /// Returns the ledger over one that has the records of the whole log, `told` of them. `said` and `content` are both
-    /// these records, for contracts alone.
+    ghost use Rattle.ups_lasting.specs.LogLeft.{LeavesLog};
+    ghost use Rattle.ups_ledger.specs.Behind.{AreBehind};
+
+    /// Returns the ledger over one that has the records of the history of a manager, which is the whole log. `empty` is a
+    /// manager without history that has the same settings.
     pub fn over(
         alloc: Global,
         ledger: D,
-        said: Log<Record<Global>, ()>,
-        content: Log<Record<Global>, ()>,
-        told: u64,
+        manager: &Manager<Global>,
         empty: Manager<Global>,
-        shifts: Shifts<Global>,
     ) -> LastingLedger<D>
-        requires now { D.is_sound ledger → D.kept ledger ≡ firsts said.items }
-        requires left { D.is_first ledger → (found : List (Record Global)) → D.recovers ledger found → found ≡ firsts said.items }
-        requires told { length (firsts said.items) ≡ told }
-        requires same { firsts content.items ≡ firsts said.items }
-        requires none { (w : List ℕ) → less_by shifts w ≡ 0 }
-        ensures kept { firsts result.log.items ≡ firsts said.items }
-        ensures content { firsts result.content.items ≡ firsts said.items }
-        ensures told { result.told ≡ told }
+        requires now { D.is_sound ledger → D.kept ledger ≡ map recorded manager.now.history }
+        requires left { D.is_first ledger → (found : List (Record Global)) → D.recovers ledger found → found ≡ map recorded manager.now.history }
+        ensures kept { result.log ≡ map recorded manager.now.history }
+        ensures content { result.content ≡ map recorded manager.now.history }
+        ensures told { result.told ≡ length manager.now.history }
         ensures ledger { result.ledger ≡ ledger }
-        ensures settings { result.empty.settings ≡ empty.settings }
+        ensures settings { result.compaction.empty.settings ≡ empty.settings }
+        ensures tried { result.tried ≡ [] }
+        ensures doubt { is_exchange result.doubt ≡ false }
     {
         what_stands_for_a_log_goes_on();
         LastingLedger {
             alloc,
             ledger,
+            told: manager.entries() as u64,
+            shifts: Shifts::none(alloc),
+            doubt: Doubt::Nothing,
+            compaction: Compaction::new(empty),
+            compacted: 0,
+            log: GhostRecords::of(manager),
+            content: GhostRecords::of(manager),
+            tried: GhostRecords::none(),
+        }
+    }
+
+    /// Finds out whether the drafts have taken the place of the records, if that is in doubt.
+    ///
+    /// Errors: those of the ledger.
+    fn settle(&mut self) -> Result<(), LedgerFault>
+        ensures settled { OnOk result (is_exchange self.new.doubt ≡ false) }
+        ensures log { self.new.log ≡ self.old.log }
+        ensures told { self.new.told ≡ self.old.told }
+        ensures sound { D.is_sound self.new.ledger → D.is_sound self.old.ledger }
+        ensures first { D.is_first self.new.ledger → D.is_first self.old.ledger }
+        ensures crash { D.is_first self.new.ledger → (rs : List (Record Global)) → LeavesLog self.new rs → LeavesLog self.old rs }
+    {
+        let LastingLedger {
+            ledger,
+            shifts,
+            doubt,
+            content,
+            ..
+        } = self;
+        let Doubt::Exchange(_) = doubt else {
+            return Ok(());
+        };
+        let is_made = ledger.settle()?;
+        if let Doubt::Exchange(successor) = replace(doubt, Doubt::Nothing) {
+            if is_made {
+                *shifts = successor.shifts;
+                *content = successor.records;
+            }
+        }
+        Ok(())
+    }
+
+    /// Appends records, with nothing in doubt about the records that count.
+    ///
+    /// Errors: those of [`Ledger::append`].
+    fn append_settled(&mut self, records: &[Record<Global>]) -> Result<(), LedgerFault>
+        requires settled { is_exchange self.old.doubt ≡ false }
+        ensures put { OnOk result (self.new.log ≡ self.old.log ++ records.now) }
+        ensures same { OnErr result (self.new.log ≡ self.old.log) }
+        ensures sound { D.is_sound self.new.ledger → D.is_sound self.old.ledger }
+        ensures first { D.is_first self.new.ledger → D.is_first self.old.ledger }
+        ensures crash { D.is_first self.new.ledger → (rs : List (Record Global)) → LeavesLog self.new rs → LeavesLog self.old rs ⊎ (D.is_sound self.old.ledger × (rs ≡ self.old.log ++ records.now)) }
+        ensures left { OnOk result (D.is_first self.new.ledger → (rs : List (Record Global)) → LeavesLog self.new rs → D.is_sound self.new.ledger × (rs ≡ self.new.log)) }
+        ensures more { OnOk result (self.new.told ≡ self.old.told + length records.now) }
+        ensures no_more { OnErr result (self.new.told ≡ self.old.told) }
+    {
+        what_stands_for_a_log_goes_on();
+        let LastingLedger {
+            alloc,
+            ledger,
             told,
             shifts,
-            is_doubtful: false,
-            empty,
-            log: said,
+            doubt,
+            log,
             content,
-            tried: Log::new(),
+            tried,
+            ..
+        } = self;
+        let Some(sum) = told.checked_add(records.len() as u64) else {
+            return Err(LedgerFault::Full);
+        };
+        let was_up = ledger.is_up();
+        match append_less(*alloc, ledger, shifts, content, records) {
+            Ok(()) => {
+                log.grow(records);
+                *told = sum;
+                *tried = GhostRecords::none();
+                *doubt = Doubt::Nothing;
+                Ok(())
+            }
+            Err(fault) => {
+                *doubt = Doubt::Append;
+                if was_up {
+                    *tried = GhostRecords::none();
+                    tried.grow(records);
+                }
+                Err(fault)
+            }
+        }
+    }
+
+    /// Returns whether at least `at` records, and no fewer than the last compaction left, were appended since that.
+    fn is_due(&self, at: u64) -> bool {
+        let since = self.ledger.len().saturating_sub(self.compacted);
+        since >= at.max(self.compacted)
+    }
+
+    /// Does a slice of the compaction. `total` are the shifts once the drafts have taken the place of the records.
+    ///
+    /// Errors: those of the ledger; Full.
+    fn turn(&mut self, moment: u64, total: Shifts<Global>) -> Result<Tending, LedgerFault>
+        requires moment { IsMoment moment }
+        requires sure { is_sure self.old.doubt ≡ true }
+        requires up { D.is_first self.old.ledger → (rs : List (Record Global)) → D.recovers self.old.ledger rs → D.is_sound self.old.ledger }
+        requires total { IfSome (coming self.old.compaction.stage) (λ extra. (w : List ℕ) → less_by total w ≡ less_by extra w + less_by self.old.shifts w) }
+        ensures log { self.new.log ≡ self.old.log }
+        ensures told { self.new.told ≡ self.old.told }
+        ensures sound { D.is_sound self.new.ledger → D.is_sound self.old.ledger }
+        ensures first { D.is_first self.new.ledger → D.is_first self.old.ledger }
+        ensures crash { D.is_first self.new.ledger → (rs : List (Record Global)) → LeavesLog self.new rs → D.is_sound self.old.ledger × (rs ≡ self.old.log) }
+    {
+        what_stands_for_a_log_goes_on();
+        let LastingLedger {
+            alloc,
+            ledger,
+            shifts,
+            doubt,
+            compaction,
+            compacted,
+            content,
+            ..
+        } = self;
+        let before = ledger.len();
+        match compaction.tend(*alloc, ledger, moment)? {
+            Tended::Resting => Ok(Tending::Resting),
+            Tended::Going => Ok(Tending::Going),
+            Tended::Exchanged { records } => {
+                *shifts = total;
+                *content = GhostRecords::drafted(records);
+                *compacted = ledger.len();
+                Ok(Tending::Compacted {
+                    before,
+                    after: *compacted,
+                })
+            }
+            Tended::Doubtful { records, fault } => {
+                *doubt = Doubt::Exchange(Successor {
+                    shifts: total,
+                    records: GhostRecords::drafted(records),
+                });
+                Err(fault)
+            }
         }
     }
 }
 
 impl<D: DraftLedger> Ledger for LastingLedger<D> {
-    ghost kept = { λ l. firsts l.log.items };
+    ghost kept = { λ l. l.log };
 
     ghost told = { λ l. l.told };
 
@@ -95,51 +246,35 @@ impl<D: DraftLedger> Ledger for LastingLedger<D> {
 
     ghost is_first = { λ l. D.is_first l.ledger };
 
-    ghost recovers = { λ l rs. LeavesOfLog D.DraftLedger l.ledger (firsts l.content.items) (firsts l.log.items) (firsts l.tried.items) (less_by l.shifts) rs };
+    ghost recovers = { λ l rs. LeavesOfLog D.DraftLedger l.ledger l.content l.log l.tried (less_by l.shifts) (is_exchange l.doubt) rs };
 
     fn run(&self) -> u64 {
         self.ledger.run()
     }
 
     fn append(&mut self, records: &[Record<Global>]) -> Result<(), LedgerFault> {
-        what_stands_for_a_log_goes_on();
-        let LastingLedger {
-            alloc,
-            ledger,
-            told,
-            shifts,
-            is_doubtful,
-            empty: _,
-            log,
-            content,
-            tried,
-        } = self;
-        let Some(sum) = told.checked_add(records.len() as u64) else {
-            return Err(LedgerFault::Full);
-        };
-        let was_up = ledger.is_up();
-        match append_less(*alloc, ledger, shifts, content, records) {
-            Ok(()) => {
-                grow(log, records);
-                *told = sum;
-                *tried = Log::new();
-                *is_doubtful = false;
-                Ok(())
-            }
-            Err(fault) => {
-                *is_doubtful = true;
-                if was_up {
-                    *tried = Log::new();
-                    grow(tried, records);
-                }
-                Err(fault)
-            }
-        }
+        self.settle()?;
+        self.append_settled(records)
     }
 
     fn tidy(&mut self) {
-        if !self.is_doubtful {
+        if self.doubt.is_nothing() {
             self.ledger.tidy();
+        }
+    }
+
+    fn tend(&mut self, moment: u64, at: u64) -> Result<Tending, LedgerFault> {
+        if !self.doubt.is_nothing() || !self.ledger.is_up() {
+            return Ok(Tending::Resting);
+        }
+        let is_due = self.is_due(at);
+        self.compaction.begin_if(is_due);
+        match self.compaction.coming_with(self.alloc, &self.shifts) {
+            Ok(total) => self.turn(dated(moment), total),
+            Err(fault) => {
+                self.compaction.give_up();
+                Err(fault)
+            }
         }
     }
 }

@@ -4,10 +4,12 @@
 
 mod carrying;
 mod compaction;
+mod doubt;
 mod draft_ledger;
 mod drafting;
 mod finishing;
 mod following;
+mod ghost_records;
 mod growing;
 mod lasting;
 pub mod laws;

@@ -4,8 +4,9 @@ ghost use Rattle.std.specs.Prelude.{◌≡◌};
 ghost use Rattle.ups_ledger.specs.Backed.{HadAtLeast};
 
 use crate::committing::commit;
-use crate::fault::CommitFault;
+use crate::fault::{CommitFault, LedgerFault};
 use crate::ledger::Ledger;
+use crate::tending::Tending;
 use std::alloc::Global;
 use std::sync::Wait;
 use ups_service::SharedService;
@@ -84,5 +85,19 @@ impl<L: Ledger> Keeper<L> {
         ensures sound { L.is_sound self.new.ledger → L.is_sound self.old.ledger }
     {
         self.ledger.tidy();
+    }
+
+    /// Does a slice of a compaction of the ledger, as [`Ledger::tend`] does. What is committed stays.
+    ///
+    /// # Errors
+    ///
+    /// Those of [`Ledger::tend`].
+    pub fn tend(&mut self, moment: u64, at: u64) -> Result<Tending, LedgerFault>
+        ensures kept { (history : List (Entry Global)) → IsKept L.Ledger self.old history → IsKept L.Ledger self.new history }
+        ensures safe { (history : List (Entry Global)) → IsKept L.Ledger self.old history → IsSafe L.Ledger self.old history → IsSafe L.Ledger self.new history }
+        ensures more { self.old.committed ≤ self.new.committed }
+        ensures sound { L.is_sound self.new.ledger → L.is_sound self.old.ledger }
+    {
+        self.ledger.tend(moment, at)
     }
 }

@@ -1,6 +1,7 @@
 //! Permanent storage of records.
 
 use crate::fault::LedgerFault;
+use crate::tending::Tending;
 use std::alloc::Global;
 use ups_journal::Record;
 
@@ -60,4 +61,22 @@ pub trait Ledger: Drop {
         ensures told { told self.new ≡ told self.old }
         ensures first { is_first self.new → is_first self.old }
         ensures crash { (rs : List (Record Global)) → recovers self.new rs → recovers self.old rs ⊎ ((is_first self.old → is_sound self.old) × (rs ≡ kept self.old)) };
+
+    /// Does a slice of a compaction of what is stored, and begins one if at least `at` records, and no fewer than the last
+    /// compaction left, were appended since. What is stored then stands for the records, which to the outside stay as they
+    /// are. Call it between appends, again soon while a compaction is under way. `moment` is the time in seconds since
+    /// 1970-01-01 UTC. A ledger that is never compacted does nothing.
+    ///
+    /// # Errors
+    ///
+    /// Full, Write, Shut: the compaction is given up, and the next one begins anew. Nothing is lost.
+    fn tend(&mut self, moment: u64, at: u64) -> Result<Tending, LedgerFault>
+        ensures same { is_sound self.new → kept self.new ≡ kept self.old }
+        ensures sound { is_sound self.new → is_sound self.old }
+        ensures told { told self.new ≡ told self.old }
+        ensures first { is_first self.new → is_first self.old }
+        ensures crash { is_first self.new → (rs : List (Record Global)) → recovers self.new rs → recovers self.old rs ⊎ (is_sound self.old × (rs ≡ kept self.old)) }
+    {
+        Ok(Tending::Resting)
+    }
 }

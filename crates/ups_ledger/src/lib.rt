@@ -12,6 +12,7 @@ pub mod laws;
 mod ledger;
 mod no_ledger;
 mod recorder;
+mod tending;
 mod withheld;
 
 pub use commits::{AreCommitted, Commits, Committed, Keeping};
@@ -23,4 +24,5 @@ pub use keeper::Keeper;
 pub use ledger::Ledger;
 pub use no_ledger::NoLedger;
 pub use recorder::{Recorder, group_of};
+pub use tending::Tending;
 pub use withheld::Withheld;

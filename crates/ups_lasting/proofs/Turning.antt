@@ -1,0 +1,70 @@
+-- What a slice of a compaction does, by its result.
+use Rattle.std.proofs.Common.{◌≡◌, List, refl, sym, subst}
+use Rattle.std.specs.Prelude.{Ok, Err}
+use Rattle.std.specs.Global.{Global}
+use mathlib.Core.Logic.{∥∥₁_map}
+use Rattle.ups_life.specs.Settings.{Settings}
+use Rattle.ups_journal.specs.declared.record.Record.{Record}
+use Rattle.ups_ledger.specs.declared.fault.LedgerFault.{LedgerFault}
+use Rattle.ups_lasting.specs.declared.draft_ledger.DraftLedger.{Ghosts}
+use Rattle.ups_lasting.specs.declared.compaction.Tended.TheVariants as tended
+use Rattle.ups_lasting.specs.declared.stage.Follow.{Follow}
+use Rattle.ups_lasting.specs.declared.stage.Stage.{Stage}
+use Rattle.ups_lasting.specs.declared.stage.Stage.TheVariants.{Resting, Following}
+use Rattle.ups_lasting.specs.Exchanging.{Drafts, HasExchanged, MayHaveExchanged}
+use Rattle.ups_lasting.specs.Slices.{Stays}
+use Rattle.ups_lasting.specs.Stages.{Agrees, IsFollowed}
+use Rattle.ups_lasting.specs.Tending.{IsAgreed, Turns}
+use Rattle.ups_lasting.proofs.Exchanged.{leaves_some, noted_agreed, stands_agreed}
+
+module _ {L : Type 0} (g : Ghosts L) (s : Settings) (old new : L) where
+  module _ (before after : Stage) (st : Stays g old new) (agreed : g.is_sound new → IsAgreed s after (g.kept new) (g.drafts new)) where
+    pub turns_going : Turns g s old new before after (Ok tended.Going)
+    turns_going = record { agrees = agreed; same = st.same; exchanged = tt; sound = st.sound; first = st.first; crash = st.crash; left = tt; unsound = tt; doubt = tt }
+
+    pub turns_resting : Turns g s old new before after (Ok tended.Resting)
+    turns_resting = record { agrees = agreed; same = st.same; exchanged = tt; sound = st.sound; first = st.first; crash = st.crash; left = tt; unsound = tt; doubt = tt }
+
+    pub turns_failed : (fault : LedgerFault) → Turns g s old new before after (Err fault)
+    turns_failed fault = record { agrees = agreed; same = st.same; exchanged = tt; sound = st.sound; first = st.first; crash = st.crash; left = tt; unsound = tt; doubt = tt }
+
+  -- nothing is under way
+  pub agreed_resting : (after : Stage) → after ≡ Resting → g.is_sound new → IsAgreed s after (g.kept new) (g.drafts new)
+  agreed_resting after is k = subst (λ (x : Stage). IsAgreed s x (g.kept new) (g.drafts new)) (sym is) ∣ tt ∣₁
+
+  -- the next stage agrees
+  pub agreed_next : (before after : Stage) → Stays g old new → (g.is_sound old → IsAgreed s before (g.kept old) (g.drafts old)) → (g.is_sound new → Agrees s before (g.kept old) (g.drafts old) → Agrees s after (g.kept old) (g.drafts new))
+      → g.is_sound new → IsAgreed s after (g.kept new) (g.drafts new)
+  agreed_next before after st agreed on k =
+      subst (λ (rs : List (Record Global)). IsAgreed s after rs (g.drafts new)) (sym (st.same k)) (∥∥₁_map (agreed (st.sound k)) (λ x. on k x))
+
+  module _ (after : Stage) (f h : Follow) (agreed : g.is_sound old → IsAgreed s (Following f) (g.kept old) (g.drafts old)) where
+    pub turns_drafted : after ≡ Following h → Drafts g old new f h → Turns g s old new (Following f) after (Ok tended.Going)
+    turns_drafted is d = turns_going (Following f) after d.stays (λ k. subst (λ (x : Stage). IsAgreed s x (g.kept new) (g.drafts new)) (sym is)
+        (∥∥₁_map (agreed (d.stays.sound k)) (λ x. (subst (λ (rs : List (Record Global)). IsFollowed s rs h) (sym (d.stays.same k)) (d.followed k s x.0), d.put k x.1))))
+
+    pub turns_exchanged : after ≡ Resting → HasExchanged g old new f h → Turns g s old new (Following f) after (Ok (tended.Exchanged h.drafts))
+    turns_exchanged is x = record {
+      agrees = agreed_resting after is;
+      same = tt;
+      exchanged = (f.shifts, refl, λ k. (noted_agreed g s old f _ _ (agreed (x.sound k)) (x.kept k), stands_agreed g s old f _ (agreed (x.sound k)) (x.stands k)));
+      sound = x.sound;
+      first = x.first;
+      crash = tt;
+      left = x.left;
+      unsound = tt;
+      doubt = tt;
+    }
+
+    pub turns_doubtful : (fault : LedgerFault) → after ≡ Resting → MayHaveExchanged g old new f → Turns g s old new (Following f) after (Ok (tended.Doubtful h.drafts fault))
+    turns_doubtful fault is m = record {
+      agrees = agreed_resting after is;
+      same = λ k. absurd (m.unsound k);
+      exchanged = tt;
+      sound = λ k. absurd (m.unsound k);
+      first = m.first;
+      crash = tt;
+      left = tt;
+      unsound = m.unsound;
+      doubt = leaves_some g s old new f agreed m;
+    }
