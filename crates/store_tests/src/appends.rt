@@ -25,7 +25,7 @@ use std::alloc::Global;
 use std::test::Fail;
 use std::time::Clock;
 use ups_journal::Record;
-use ups_ledger::{Ledger, LedgerFault};
+use ups_ledger::LedgerFault;
 
 /// How many outcomes an append has.
 const OUTCOMES: u32 = 4;
@@ -61,7 +61,7 @@ fn outcome_of(number: u32) -> CallOutcome {
 }
 
 /// Takes a later turn, which has the form with this number.
-fn take_turn<L: Ledger>(course: &mut Course<'_, '_, L>, number: u32) {
+fn take_turn(course: &mut Course<'_>, number: u32) {
     let others = number / OUTCOMES;
     let plan = &course.bench.plan;
     plan.end_append(outcome_of(number % OUTCOMES), others % 2 == 1);
@@ -69,14 +69,14 @@ fn take_turn<L: Ledger>(course: &mut Course<'_, '_, L>, number: u32) {
 }
 
 /// Takes the first turn, in which 1 or 2 requests arrive.
-fn take_first<L: Ledger>(course: &mut Course<'_, '_, L>, outcome: u32, number: u32) {
+fn take_first(course: &mut Course<'_>, outcome: u32, number: u32) {
     course.bench.plan.end_append(outcome_of(outcome), false);
     let _ = course.commit(if number == 0 { 1 } else { 2 });
 }
 
 /// Takes the second turn, and the third, and returns what the course shows. What it shows before a turn is looked at if
 /// only turns of the first form follow.
-fn take_others<L: Ledger>(course: &mut Course<'_, '_, L>, others: u32) -> Verdict {
+fn take_others(course: &mut Course<'_>, others: u32) -> Verdict {
     let mut rest = others;
     for _turn in 0..2 {
         if rest == 0 && course.verdict() != Verdict::Right {
@@ -92,18 +92,18 @@ fn take_others<L: Ledger>(course: &mut Course<'_, '_, L>, others: u32) -> Verdic
 }
 
 /// Returns the verdict on the sequence with this number that begins with this outcome, in these files.
-fn verdict_on<'a, R: Clock + Log>(
+fn verdict_on<R: Clock + Log>(
     rt: &R,
     alloc: Global,
-    bench: &'a Bench,
-    history: &'a [Record<Global>],
+    bench: &Bench,
+    history: &[Record<Global>],
     outcome: u32,
     sequence: u32,
 ) -> Verdict {
-    let Some(mut ledger) = begun(rt, alloc, bench) else {
+    let Some(ledger) = begun(rt, alloc, bench) else {
         return Verdict::Unmade;
     };
-    let mut course = Course::new(alloc, bench, history, &mut ledger);
+    let mut course = Course::new(alloc, bench, history, ledger);
     take_first(&mut course, outcome, sequence % FIRST);
     take_others(&mut course, sequence / FIRST)
 }
@@ -149,15 +149,15 @@ fn counted_from<R: Clock + Log>(rt: &R, alloc: Global, outcome: u32) -> Result<C
 type Answer = (Result<(), LedgerFault>, Option<u64>, Option<u64>);
 
 /// Returns the answer of an append of one request, which ends in the way that has this number.
-fn answer_on<'a, R: Clock + Log>(
+fn answer_on<R: Clock + Log>(
     rt: &R,
     alloc: Global,
-    bench: &'a Bench,
-    history: &'a [Record<Global>],
+    bench: &Bench,
+    history: &[Record<Global>],
     outcome: u32,
 ) -> Option<Answer> {
-    let mut ledger = begun(rt, alloc, bench)?;
-    let mut course = Course::new(alloc, bench, history, &mut ledger);
+    let ledger = begun(rt, alloc, bench)?;
+    let mut course = Course::new(alloc, bench, history, ledger);
     bench.plan.end_append(outcome_of(outcome), false);
     let answer = course.commit(1);
     Some((answer, course.left(false), course.left(true)))

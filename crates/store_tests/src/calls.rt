@@ -1,5 +1,4 @@
-//! One call of the disk that fails, and two, in a course of an append, a tidying up, and another append; and one in a course
-//! with two compactions, which keep all requests.
+//! One call of the disk that fails, and two, in a course of an append, a tidying up, and another append.
 //!
 //! A call that fails has done nothing, and a sync that fails so has lost what was not synced; or, if it is no read, it has
 //! done all that it was asked. Calls are counted from the first append on, as the course makes them: those of opening the
@@ -15,7 +14,6 @@ use std::alloc::Global;
 use std::test::Fail;
 use std::time::Clock;
 use ups_journal::Record;
-use ups_ledger::Ledger;
 
 /// No course makes as many calls.
 const MOST: u32 = 10_000;
@@ -36,22 +34,9 @@ enum Second {
     Lasting,
 }
 
-/// What a course does.
-#[derive(Clone, Copy, PartialEq, Eq)]
-enum Work {
-    /// It appends, tidies up, and appends.
-    Tidying,
-    /// It appends and compacts, twice.
-    Compacting,
-}
-
-/// How many slices a compaction has at most.
-const SLICES: u32 = 12;
-
-/// What a course does, and which calls fail in it: one, and those from a later one on.
+/// Which calls fail in a course: one, and those from a later one on.
 #[derive(Clone, Copy)]
 struct Trouble {
-    work: Work,
     first: Fault,
     /// The number of the second call.
     call: u32,
@@ -68,7 +53,7 @@ fn end_of(second: Second) -> CallEnd {
 }
 
 /// Plans the failures of a course.
-fn plan<L: Ledger>(course: &Course<'_, '_, L>, trouble: Trouble) {
+fn plan(course: &Course<'_>, trouble: Trouble) {
     let second = Fault {
         call: trouble.call,
         end: end_of(trouble.second),
@@ -98,13 +83,13 @@ const UNMADE: Told = Told {
 };
 
 /// Lets a request arrive, and appends.
-fn appended<L: Ledger>(course: &mut Course<'_, '_, L>) -> Verdict {
+fn appended(course: &mut Course<'_>) -> Verdict {
     let _ = course.commit(1);
     course.verdict()
 }
 
 /// Appends, tidies up, and appends.
-fn tidied<L: Ledger>(course: &mut Course<'_, '_, L>) -> Verdict {
+fn taken(course: &mut Course<'_>) -> Verdict {
     match appended(course) {
         Verdict::Right => {
             course.tidy();
@@ -114,41 +99,10 @@ fn tidied<L: Ledger>(course: &mut Course<'_, '_, L>) -> Verdict {
     }
 }
 
-/// Compacts, as far as no call fails.
-fn compact<L: Ledger>(course: &mut Course<'_, '_, L>) {
-    for _slice in 0..SLICES {
-        if course.tend() {
-            return;
-        }
-    }
-}
-
-/// Appends, and compacts.
-fn appended_and_compacted<L: Ledger>(course: &mut Course<'_, '_, L>) -> Verdict {
-    match appended(course) {
-        Verdict::Right => {
-            compact(course);
-            course.verdict()
-        }
-        wrong => wrong,
-    }
-}
-
-/// Does the work of a course.
-fn taken<L: Ledger>(course: &mut Course<'_, '_, L>, work: Work) -> Verdict {
-    if work == Work::Tidying {
-        return tidied(course);
-    }
-    match appended_and_compacted(course) {
-        Verdict::Right => appended_and_compacted(course),
-        wrong => wrong,
-    }
-}
-
 /// Takes a course with this trouble.
-fn told_by<L: Ledger>(course: &mut Course<'_, '_, L>, trouble: Trouble) -> Told {
+fn told_by(course: &mut Course<'_>, trouble: Trouble) -> Told {
     plan(course, trouble);
-    let verdict = taken(course, trouble.work);
+    let verdict = taken(course);
     let calls = course.bench.plan.calls();
     let is_read = course.bench.plan.failed_to_read();
     let verdict = match verdict {
@@ -163,18 +117,15 @@ fn told_by<L: Ledger>(course: &mut Course<'_, '_, L>, trouble: Trouble) -> Told 
 }
 
 /// The same, in these files.
-fn told_on<'a, R: Clock + Log>(
+fn told_on<R: Clock + Log>(
     rt: &R,
     alloc: Global,
-    bench: &'a Bench,
-    history: &'a [Record<Global>],
+    bench: &Bench,
+    history: &[Record<Global>],
     trouble: Trouble,
 ) -> Told {
     match begun(rt, alloc, bench) {
-        Some(mut ledger) => told_by(
-            &mut Course::new(alloc, bench, history, &mut ledger),
-            trouble,
-        ),
+        Some(ledger) => told_by(&mut Course::new(alloc, bench, history, ledger), trouble),
         None => UNMADE,
     }
 }
@@ -193,36 +144,47 @@ fn told_of<R: Clock + Log>(
     }
 }
 
-/// Counts the courses in which a call fails, and each later one as well, one after the other.
+/// Counts the courses in which a call fails, and a later one as well.
 fn count_second<R: Clock + Log>(
     rt: &R,
     alloc: Global,
     made: &Bench,
     history: &[Record<Global>],
     counts: &mut Counts,
-    trouble: Trouble,
+    first: Fault,
+    second: Second,
 ) {
-    for earlier in trouble.first.call..MOST {
+    for earlier in first.call..MOST {
         let call = earlier.saturating_add(1);
-        let trouble = Trouble { call, ..trouble };
+        let trouble = Trouble {
+            first,
+            call,
+            second,
+        };
         let told = told_of(rt, alloc, made, history, trouble);
         if told.calls < call {
             return;
         }
-        if trouble.second != Second::Done || !told.is_read {
+        if second != Second::Done || !told.is_read {
             counts.add(told.verdict);
         }
     }
 }
 
-/// Returns the trouble of a course in which a call fails, and a second one, that is none of the course's.
-fn trouble_of(work: Work, first: Fault, second: Second) -> Trouble {
-    Trouble {
-        work,
+/// Returns what is told of the course in which one call fails.
+fn told_alone<R: Clock + Log>(
+    rt: &R,
+    alloc: Global,
+    made: &Bench,
+    history: &[Record<Global>],
+    first: Fault,
+) -> Told {
+    let trouble = Trouble {
         first,
         call: MOST,
-        second,
-    }
+        second: Second::Undone,
+    };
+    told_of(rt, alloc, made, history, trouble)
 }
 
 /// Counts the courses in which two calls fail.
@@ -237,14 +199,12 @@ fn counted<R: Clock + Log>(
     let mut counts = Counts::new();
     for call in 1..MOST {
         let first = Fault { call, end };
-        let alone = trouble_of(Work::Tidying, first, Second::Undone);
-        let told = told_of(rt, alloc, made, history, alone);
-        if told.calls < call {
+        let alone = told_alone(rt, alloc, made, history, first);
+        if alone.calls < call {
             return counts;
         }
-        if end != CallEnd::Done || !told.is_read {
-            let trouble = trouble_of(Work::Tidying, first, second);
-            count_second(rt, alloc, made, history, &mut counts, trouble);
+        if end != CallEnd::Done || !alone.is_read {
+            count_second(rt, alloc, made, history, &mut counts, first, second);
         }
     }
     counts
@@ -263,17 +223,11 @@ fn pairs<R: Clock + Log>(
 }
 
 /// Returns the counts of the courses in which one call fails, or all from one on.
-fn singles<R: Clock + Log>(
-    rt: &R,
-    alloc: Global,
-    work: Work,
-    second: Second,
-) -> Result<Counts, Fail> {
+fn singles<R: Clock + Log>(rt: &R, alloc: Global, second: Second) -> Result<Counts, Fail> {
     let history = history(alloc, REQUESTS)?;
     let made = made(rt, alloc)?;
     let mut counts = Counts::new();
-    let trouble = trouble_of(work, NO_FAULT, second);
-    count_second(rt, alloc, &made, &history, &mut counts, trouble);
+    count_second(rt, alloc, &made, &history, &mut counts, NO_FAULT, second);
     Ok(counts)
 }
 
@@ -288,42 +242,22 @@ fn expect_all_right(counts: Counts) -> Result<(), Fail> {
 
 #[test]
 fn a_call_that_does_nothing_breaks_nothing(rt: HostRuntime) -> Result<(), Fail> {
-    expect_all_right(singles(&rt, rt.alloc(), Work::Tidying, Second::Undone)?)
+    expect_all_right(singles(&rt, rt.alloc(), Second::Undone)?)
 }
 
 #[test]
 fn a_call_that_does_all_breaks_nothing(rt: HostRuntime) -> Result<(), Fail> {
-    expect_all_right(singles(&rt, rt.alloc(), Work::Tidying, Second::Done)?)
+    expect_all_right(singles(&rt, rt.alloc(), Second::Done)?)
 }
 
 #[test]
 fn a_call_without_room_breaks_nothing(rt: HostRuntime) -> Result<(), Fail> {
-    expect_all_right(singles(&rt, rt.alloc(), Work::Tidying, Second::NoRoom)?)
+    expect_all_right(singles(&rt, rt.alloc(), Second::NoRoom)?)
 }
 
 #[test]
 fn failures_that_last_break_nothing(rt: HostRuntime) -> Result<(), Fail> {
-    expect_all_right(singles(&rt, rt.alloc(), Work::Tidying, Second::Lasting)?)
-}
-
-#[test]
-fn a_call_that_does_nothing_breaks_no_compaction(rt: HostRuntime) -> Result<(), Fail> {
-    expect_all_right(singles(&rt, rt.alloc(), Work::Compacting, Second::Undone)?)
-}
-
-#[test]
-fn a_call_that_does_all_breaks_no_compaction(rt: HostRuntime) -> Result<(), Fail> {
-    expect_all_right(singles(&rt, rt.alloc(), Work::Compacting, Second::Done)?)
-}
-
-#[test]
-fn a_call_without_room_breaks_no_compaction(rt: HostRuntime) -> Result<(), Fail> {
-    expect_all_right(singles(&rt, rt.alloc(), Work::Compacting, Second::NoRoom)?)
-}
-
-#[test]
-fn failures_that_last_break_no_compaction(rt: HostRuntime) -> Result<(), Fail> {
-    expect_all_right(singles(&rt, rt.alloc(), Work::Compacting, Second::Lasting)?)
+    expect_all_right(singles(&rt, rt.alloc(), Second::Lasting)?)
 }
 
 #[test]

@@ -9,11 +9,10 @@ use std::alloc::{AllocError, Global};
 use std::test::Fail;
 use std::time::Clock;
 use ups_journal::{Columns, Record, RecordedOperation};
-use ups_lasting::LastingLedger;
-use ups_ledger::{Keeper, Ledger, LedgerFault, Tending};
+use ups_ledger::{Keeper, Ledger, LedgerFault};
 use ups_manager::Manager;
 use ups_pdu::Bytes;
-use ups_start::{OwnName, Run, StartChoices, StoreLedger, begin};
+use ups_start::{Run, StartChoices, StoreLedger, begin};
 
 /// What a course shows of the ledger.
 #[derive(Clone, Copy, Debug, PartialEq, Eq)]
@@ -65,16 +64,15 @@ impl Counts {
     }
 }
 
-/// Returns the request with this number in the history, from 0. It reserves a UID, so each compaction keeps it.
+/// Returns the request with this number in the history, from 0.
 fn record_of(alloc: Global, number: u64) -> Result<Record<Global>, AllocError> {
-    let uid = format!(in alloc; "1.2.{number}")?;
     Ok(Record {
         caller: 0,
         title: Bytes::copy_of(alloc, b"A")?,
         moment: number,
         request: Columns {
-            operation: RecordedOperation::Reserve,
-            instance: Some(Bytes::copy_of(alloc, uid.as_bytes())?),
+            operation: RecordedOperation::Sweep,
+            instance: None,
             transaction_uid: None,
             state: None,
             receiver: None,
@@ -103,7 +101,7 @@ pub(crate) fn begun<'a, R: Clock + Log>(
     rt: &R,
     alloc: Global,
     bench: &'a Bench,
-) -> Option<LastingLedger<StoreLedger<'a, BenchPlace<'a>>>> {
+) -> Option<StoreLedger<'a, BenchPlace<'a>>> {
     let Ok(mut manager) = Manager::new(alloc, &[], 60, 0, 1_000) else {
         return None;
     };
@@ -119,7 +117,7 @@ pub(crate) fn begun<'a, R: Clock + Log>(
         terms: TERMS,
     };
     let place = BenchPlace::new(alloc, bench);
-    match begin(alloc, rt, &OwnName, place, choices, about, &mut manager) {
+    match begin(alloc, rt, place, choices, about, &mut manager) {
         Ok(Keeper { ledger, .. }) => Some(ledger),
         Err(_) => None,
     }
@@ -136,25 +134,25 @@ pub(crate) fn made<R: Clock + Log>(rt: &R, alloc: Global) -> Result<Bench, Fail>
 
 /// A ledger, with how many requests of a history have arrived, and how many it told committed.
 #[derive(Drop)]
-pub(crate) struct Course<'a, 'l, L: Ledger> {
+pub(crate) struct Course<'a> {
     alloc: Global,
     /// The files.
     pub(crate) bench: &'a Bench,
     history: &'a [Record<Global>],
-    ledger: &'l mut L,
+    ledger: StoreLedger<'a, BenchPlace<'a>>,
     arrived: usize,
     committed: usize,
     is_lost: bool,
 }
 
-impl<'a, 'l, L: Ledger> Course<'a, 'l, L> {
+impl<'a> Course<'a> {
     /// Returns the course in which no request has arrived.
     pub(crate) fn new(
         alloc: Global,
         bench: &'a Bench,
         history: &'a [Record<Global>],
-        ledger: &'l mut L,
-    ) -> Course<'a, 'l, L> {
+        ledger: StoreLedger<'a, BenchPlace<'a>>,
+    ) -> Course<'a> {
         Course {
             alloc,
             bench,
@@ -182,14 +180,6 @@ impl<'a, 'l, L: Ledger> Course<'a, 'l, L> {
             Err(_) => {}
         }
         answer
-    }
-
-    /// Does a slice of a compaction, which is due after one request, and returns whether it is done.
-    pub(crate) fn tend(&mut self) -> bool {
-        match self.ledger.tend(0, 1) {
-            Ok(Tending::Compacted { .. }) => true,
-            Ok(_) | Err(_) => false,
-        }
     }
 
     /// Tidies up the ledger.

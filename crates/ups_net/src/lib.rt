@@ -21,7 +21,6 @@ mod serving;
 mod site;
 mod supervision;
 mod sweeping;
-mod tender;
 mod workers;
 
 pub use clock::HostClock;
