@@ -53,6 +53,7 @@ CONSTANTS = {
     "keep": ("ups_settings", "KEEP"), "offset": ("ups_settings", "OFFSET"),
     "max_workers": ("ups_peers", "MAX_WORKERS"), "workers": ("ups_peers", "WORKERS"),
     "idle": ("ups_peers", "IDLE"), "timeout": ("ups_peers", "TIMEOUT"), "delivery_timeout": ("ups_peers", "DELIVERY_TIMEOUT"),
+    "max_compact_at": ("ups_peers", "MAX_COMPACT_AT"), "compact_at": ("ups_peers", "COMPACT_AT"),
     "version": ("ups_args", "VERSION"), "address": ("ups_args", "LOOPBACK"),
     "short": ("ups_transport", "QUICK_OPENING"), "crowd": ("ups_net", "CROWD"), "group": ("ups_ledger", "MOST"),
     "longest_pdu": ("ups_pdu", "MAX_DATA_LENGTH"), "longest_message": ("ups_assoc", "LONGEST_MESSAGE"),
@@ -62,7 +63,7 @@ CONSTANTS = {
     "min_offset": ("ups_life", "MIN_OFFSET"), "max_offset": ("ups_life", "MAX_OFFSET"),
 }
 OPTIONS = {"keep": "keep", "offset": "offset", "associations": "workers", "idle": "idle", "timeout": "timeout",
-           "delivery-timeout": "delivery_timeout", "bind": "address"}  # the fact that is the default of each option
+           "delivery-timeout": "delivery_timeout", "compact-at": "compact_at", "bind": "address"}  # the fact that is the default of each option
 STATUS_FILE = "crates/ups_cycle/src/status.rt"
 MAN_PAGE = "packaging/man/upsd.8"
 CLIENT = "examples/ups.py"

@@ -1,6 +1,7 @@
 """Kills a server on a store at random moments, and checks that a new one on the same file has what was answered.
 
 Four workstations send requests in associations of their own, a reader reads their steps, and three watchers take the reports.
+Most servers compact the store while they run: it is compacted anew as soon as it is done, or after 30 or 300 requests.
 For each step the script keeps what it is after the last answered request, and what it would be after each one sent since. After
 a start, an N-GET has to return one of these, whole.
 """
@@ -36,6 +37,7 @@ RANKS = {b"SCHEDULED": 0, b"IN PROGRESS": 1, b"COMPLETED": 2, b"CANCELED": 2}
 MOST = 30.0  # seconds for watchers to get what they have not acknowledged, and for finished steps without a Deletion Lock to go
 QUICK = 0.4  # seconds that most servers live at most, after the checks
 DURING_START, IDLE, ALL_EACH, LOCKS_EACH = 0.1, 0.15, 25, 10
+COMPACTS = ("1", "30", "300", "50000")  # after how many requests the store is compacted: one of these for each server
 LIES = ("create", "set", "claim", "finish", "subscribe", "lock", "tell", "show")
 
 
@@ -324,7 +326,7 @@ class Trial:
             self.faults[kind].append(fault)
 
     def server(self, waits: bool = True) -> Stored:
-        return Stored(self.program, self.file, "--keep", KEEP, *self.peers, waits=waits)
+        return Stored(self.program, self.file, "--keep", KEEP, "--compact-at", self.chance.choice(COMPACTS), *self.peers, waits=waits)
 
     # a life of the server
 

@@ -41,6 +41,7 @@ TRACED = "pwrite64,write,ftruncate,fdatasync,fsync,sync_file_range,openat,sendto
 STRACE = ["strace", "-f", "-yy", "-xx", "-s", "50000000", "-e", f"trace={TRACED}"]
 PEERS = ["W1=127.0.0.1:1", "W2=127.0.0.1:1,lock"]
 NUMBER, INSTANCE, OPERATION, STATE_OF, RECEIVER, ATTRIBUTES = 0, 4, 3, 6, 7, 10  # columns of a row
+AT_ONCE = ("--compact-at", "1")  # each compaction begins as soon as the one before is done
 
 Key = tuple[bytes, ...]  # what was asked of a step, shown or told of it
 
@@ -384,27 +385,38 @@ class Recording:
     settings: tuple[str, ...] = ("--keep", "1000000", *PEERS)  # of its server
     made: int = 0  # the point by which the store was made
     base: int = 0  # how many rows must be there at each point
+    is_compacted: bool = False  # whether its server compacts the store, in which all rows but acknowledgements stay, with other numbers
 
     def needed_at(self, point: int) -> int:
         """Returns how many rows must be there at a point: those on which what was sent before it rests."""
         at = bisect.bisect_left(self.points, point)
         return max(self.base, self.needed[at - 1] if at else 0)
 
+    def compared(self, rows: list[Row]) -> list[Row]:
+        """Returns what is compared of the rows of a store."""
+        return lasting(rows) if self.is_compacted else rows
+
     def disks(self) -> dict[str, Disk]:
         """Returns the disks of the files at the beginning."""
         return {name: Disk(file, self.before.get(name, b"")) for name, file in self.trace.files.items()}
 
 
-def record(program: list[str], folder: str, given: argparse.Namespace, more: tuple[str, ...] = (), name: str = "store") -> Recording:
-    """Records two lives of a server, with more words for strace."""
+def lasting(rows: list[Row]) -> list[Row]:
+    """Returns the rows that each compaction keeps if no step is removed, without their numbers."""
+    return [(None, *row[1:]) for row in rows if row[OPERATION] != "acknowledge"]
+
+
+def record(program: list[str], folder: str, given: argparse.Namespace, more: tuple[str, ...] = (), name: str = "store",
+           options: tuple[str, ...] = ()) -> Recording:
+    """Records two lives of a server with these options, with more words for strace."""
     file, log, watcher, other = os.path.join(folder, name), os.path.join(folder, "strace"), Hearing(), Hearing()
     asked = Asked({}, int(watcher.place.rsplit(":", 1)[1]))
     stations = [Station(it, asked) for it in range(STATIONS)]
     lines = record_init(program, file, log)
-    made = len(lines)
+    made, compactions = len(lines), 0
     for life in range(LIVES):
         words = [*STRACE, *more, "-D", "-o", log, *program]
-        with Stored(words, file, "--keep", "1000000", f"W1={watcher.place}", f"W2={other.place},lock", seconds=4 * SECONDS) as server:
+        with Stored(words, file, "--keep", "1000000", *options, f"W1={watcher.place}", f"W2={other.place},lock", seconds=4 * SECONDS) as server:
             if life == 0:
                 client = Client(server.port)
                 assert client.subscribe(GLOBAL, b"W1", b"FALSE") == 0x0000
@@ -416,11 +428,15 @@ def record(program: list[str], folder: str, given: argparse.Namespace, more: tup
             os.kill(server.pid, signal.SIGKILL)
             server.process.wait()
             await_end(log)
+            compactions += len(server.lines("store: compacted from"))
         lines += lines_of(log)
     faults = [fault for it in stations for fault in it.faults]
     if faults:
         raise Fault(f"the work that is recorded: {faults[0]}")
-    return dataclasses.replace(judged_by(Trace(file, lines), rows_of(file), asked), made=made)
+    if options == AT_ONCE and not compactions:
+        raise Fault("the store was not compacted")
+    rows = lasting(rows_of(file)) if compactions else rows_of(file)
+    return dataclasses.replace(judged_by(Trace(file, lines), rows, asked), made=made, is_compacted=compactions > 0)
 
 
 def record_init(program: list[str], file: str, log: str) -> list[str]:
@@ -609,7 +625,7 @@ class Cuts:
         return None if len(rows) in (len(self.recording.rows), len(self.recording.rows_before)) else f"there are {len(rows)} requests"
 
     def judge(self, rows: list[Row], point: int) -> Optional[str]:
-        needed, whole = self.recording.needed_at(point), self.recording.rows
+        needed, whole, rows = self.recording.needed_at(point), self.recording.rows, self.recording.compared(rows)
         if self.recording.rows_before is not None:
             self.counts["done"] += rows == whole
             is_one = rows in (whole, self.recording.rows_before)
@@ -639,6 +655,14 @@ def record_compaction(program: list[str], folder: str) -> Recording:
     if come.status != 0:
         raise Fault(f"a compaction ends with {come.status}: {come.said[-300:]}")
     return Recording(Trace(file, lines_of(log)), rows_of(file), [], [], 0, 0, before, rows, tuple(words))
+
+
+def try_served_compactions(program: list[str], folder: str, given: argparse.Namespace, results: Results) -> None:
+    """Tries states that a disk may have kept of a server that compacts its store all the time."""
+    recording = record(program, folder, given, name="served", options=AT_ONCE)
+    cuts = tried(program, recording, given, max(1, given.cuts // 2), given.opened // 2)
+    results.tell(f"each of {cuts.counts['states']:,} states of a server that compacts has what was answered, shown and told before",
+                 f"{len(cuts.faults)} have not: {cuts.faults[:3]}" if cuts.faults else None)
 
 
 def try_compaction(program: list[str], folder: str, given: argparse.Namespace, results: Results) -> None:
@@ -702,3 +726,4 @@ def run(program: list[str], given: argparse.Namespace, results: Results) -> None
         print(f"{cuts.counts['pending']:,} of them with writes that were not synced; {cuts.counts['opened']:,} opened by the program, of which "
               f"{cuts.counts['looked at again']:,} sqlite3 reads otherwise; {time.monotonic() - began:.0f} s", flush=True)
         try_compaction(program, folder, given, results)
+        try_served_compactions(program, folder, given, results)

@@ -19,7 +19,7 @@ from typing import Optional
 
 from dicom import act, create, set_attributes
 from ledger import COMPLETED, LABEL, PATIENT, SOP_INSTANCE, STATE, Attributes, Fault
-from machine import pid_of
+from machine import holds, pid_of
 from peer import FILTERED, GLOBAL, PULL_ON, PUSH_ON, told
 from results import Results
 from server import Server
@@ -31,6 +31,7 @@ STATIONS, NAMES = 4, ("W1", "W2", "W3")  # watchers of all steps, of single ones
 FILTER = b"PATIENT3"
 HEARD = 0.2  # the share of a day's requests during which the watchers listen
 QUIET = 3.0  # seconds without a report after which none is on its way
+AT_ONCE = ("--compact-at", "1")  # each compaction begins as soon as the one before is done
 OPERATION = 3  # a column of a row
 BATCH, SETS = 10, 7  # lives that are asked at once, and N-SETs of each
 GROWTH, FEW = 1.25, 64 * 2**20  # how much more memory a server with a store may take: a factor, and bytes
@@ -294,8 +295,19 @@ def by_command(program: list[str], file: str, folder: str, day: Day, rows: list[
     tell_used("upsd compact", program, copy, plain, day, results)
 
 
+def compact_served(program: list[str], file: str, chance: random.Random) -> None:
+    """Has a server compact the store that it serves, at least once, and kills it at a random moment after that."""
+    with Stored(program, file, "--keep", str(KEEP), *AT_ONCE, *peers_of(None)) as server:
+        if not holds(lambda: server.lines("store: compacted from"), SECONDS):
+            raise Fault(f"the store is not compacted: {server.log[-3:]}")
+        time.sleep(0.2 * chance.random())
+        os.kill(server.pid, signal.SIGKILL)
+        server.process.wait()
+
+
 def fault_of_history(program: list[str], folder: str, given: argparse.Namespace, seed: int) -> Optional[str]:
-    """Returns how `upsd compact` changes what a generated history of few requests shows, or None."""
+    """Returns how `upsd compact`, or a server that compacts all the time, changes what a generated history of few requests shows
+    and how later requests are answered, or None."""
     results, file = Results(tells_passed=False), os.path.join(folder, f"history {seed}")
     try:
         day = spend_day(program, file, argparse.Namespace(requests=given.requests, seed=seed))
@@ -305,6 +317,10 @@ def fault_of_history(program: list[str], folder: str, given: argparse.Namespace,
             return f"history {seed}: upsd compact ends with {come.status}: {come.said[-200:]!r}"
         tell_same(f"history {seed}", plain, picture_of(program, copy, day), results)
         tell_used(f"history {seed}", program, copy, plain, day, results)
+        copy = copy_of(file, folder, f"served {seed}")
+        compact_served(program, copy, random.Random(f"{seed} served"))
+        tell_same(f"history {seed}, served", plain, picture_of(program, copy, day, *AT_ONCE), results)
+        tell_used(f"history {seed}, served", program, copy, plain, day, results)
     except FAULTS as fault:
         return f"history {seed}: {fault!r}"
     return f"history {seed}: {results.failed} things differ" if results.failed else None
@@ -316,7 +332,7 @@ def run_histories(program: list[str], given: argparse.Namespace, results: Result
     with folder_for(given.folder) as folder, ThreadPool(given.beside) as pool:
         found = pool.starmap(fault_of_history, [(program, folder, given, it) for it in seeds], chunksize=1)
     faults = [it for it in found if it is not None]
-    results.tell(f"{given.histories} histories of {given.requests} requests show the same behind upsd compact", "; ".join(faults[:5]) or None)
+    results.tell(f"{given.histories} histories of {given.requests} requests show the same behind upsd compact, and while they are compacted", "; ".join(faults[:5]) or None)
 
 
 def tell_used(name: str, program: list[str], file: str, plain: Picture, day: Day, results: Results) -> None:

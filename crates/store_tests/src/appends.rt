@@ -25,7 +25,7 @@ use std::alloc::Global;
 use std::test::Fail;
 use std::time::Clock;
 use ups_journal::Record;
-use ups_ledger::LedgerFault;
+use ups_ledger::{Ledger, LedgerFault};
 
 /// How many outcomes an append has.
 const OUTCOMES: u32 = 4;
@@ -61,7 +61,7 @@ fn outcome_of(number: u32) -> CallOutcome {
 }
 
 /// Takes a later turn, which has the form with this number.
-fn take_turn(course: &mut Course<'_>, number: u32) {
+fn take_turn<L: Ledger>(course: &mut Course<'_, '_, L>, number: u32) {
     let others = number / OUTCOMES;
     let plan = &course.bench.plan;
     plan.end_append(outcome_of(number % OUTCOMES), others % 2 == 1);
@@ -69,14 +69,14 @@ fn take_turn(course: &mut Course<'_>, number: u32) {
 }
 
 /// Takes the first turn, in which 1 or 2 requests arrive.
-fn take_first(course: &mut Course<'_>, outcome: u32, number: u32) {
+fn take_first<L: Ledger>(course: &mut Course<'_, '_, L>, outcome: u32, number: u32) {
     course.bench.plan.end_append(outcome_of(outcome), false);
     let _ = course.commit(if number == 0 { 1 } else { 2 });
 }
 
 /// Takes the second turn, and the third, and returns what the course shows. What it shows before a turn is looked at if
 /// only turns of the first form follow.
-fn take_others(course: &mut Course<'_>, others: u32) -> Verdict {
+fn take_others<L: Ledger>(course: &mut Course<'_, '_, L>, others: u32) -> Verdict {
     let mut rest = others;
     for _turn in 0..2 {
         if rest == 0 && course.verdict() != Verdict::Right {
@@ -91,21 +91,34 @@ fn take_others(course: &mut Course<'_>, others: u32) -> Verdict {
     }
 }
 
-/// Returns the verdict on the sequence with this number that begins with this outcome, in these files.
-fn verdict_on<R: Clock + Log>(
-    rt: &R,
+/// Returns the verdict on the sequence with this number that begins with this outcome, of a ledger in these files.
+fn verdict_by<'a, L: Ledger>(
+    ledger: L,
     alloc: Global,
-    bench: &Bench,
-    history: &[Record<Global>],
+    bench: &'a Bench,
+    history: &'a [Record<Global>],
     outcome: u32,
     sequence: u32,
 ) -> Verdict {
-    let Some(ledger) = begun(rt, alloc, bench) else {
-        return Verdict::Unmade;
-    };
-    let mut course = Course::new(alloc, bench, history, ledger);
+    let mut ledger = ledger;
+    let mut course = Course::new(alloc, bench, history, &mut ledger);
     take_first(&mut course, outcome, sequence % FIRST);
     take_others(&mut course, sequence / FIRST)
+}
+
+/// The same, with the ledger that a start returns.
+fn verdict_on<'a, R: Clock + Log>(
+    rt: &R,
+    alloc: Global,
+    bench: &'a Bench,
+    history: &'a [Record<Global>],
+    outcome: u32,
+    sequence: u32,
+) -> Verdict {
+    match begun(rt, alloc, bench) {
+        Some(ledger) => verdict_by(ledger, alloc, bench, history, outcome, sequence),
+        None => Verdict::Unmade,
+    }
 }
 
 /// The same, in a copy of these files.
@@ -148,19 +161,33 @@ fn counted_from<R: Clock + Log>(rt: &R, alloc: Global, outcome: u32) -> Result<C
 /// An answer of an append, and how many requests a process that dies and a power cut leave.
 type Answer = (Result<(), LedgerFault>, Option<u64>, Option<u64>);
 
-/// Returns the answer of an append of one request, which ends in the way that has this number.
-fn answer_on<R: Clock + Log>(
-    rt: &R,
+/// Returns the answer of an append of one request, which ends in the way that has this number, by a ledger in these files.
+fn answer_by<'a, L: Ledger>(
+    ledger: L,
     alloc: Global,
-    bench: &Bench,
-    history: &[Record<Global>],
+    bench: &'a Bench,
+    history: &'a [Record<Global>],
     outcome: u32,
-) -> Option<Answer> {
-    let ledger = begun(rt, alloc, bench)?;
-    let mut course = Course::new(alloc, bench, history, ledger);
+) -> Answer {
+    let mut ledger = ledger;
+    let mut course = Course::new(alloc, bench, history, &mut ledger);
     bench.plan.end_append(outcome_of(outcome), false);
     let answer = course.commit(1);
-    Some((answer, course.left(false), course.left(true)))
+    (answer, course.left(false), course.left(true))
+}
+
+/// The same, by the ledger that a start returns.
+fn answer_on<'a, R: Clock + Log>(
+    rt: &R,
+    alloc: Global,
+    bench: &'a Bench,
+    history: &'a [Record<Global>],
+    outcome: u32,
+) -> Option<Answer> {
+    match begun(rt, alloc, bench) {
+        Some(ledger) => Some(answer_by(ledger, alloc, bench, history, outcome)),
+        None => None,
+    }
 }
 
 /// The same, in a store that is made for it.

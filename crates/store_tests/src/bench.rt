@@ -1,11 +1,12 @@
 //! The files of a store in memory, which stay when the store is closed.
 
+use crate::bench_disk::BenchDisk;
 use crate::contents::Contents;
-use crate::failing::Failing;
 use crate::plan::CallPlan;
 use crate::recovering::loaded;
-use sqlite_disk::{Disk, Files, Memory};
+use sqlite_disk::{Disk, Files};
 use std::alloc::{AllocError, Global};
+use std::rc::Rc;
 use std::test::Fail;
 use ups_store::create_files;
 
@@ -16,36 +17,31 @@ pub(crate) const SEED: u64 = 7;
 #[derive(Drop)]
 pub(crate) struct Bench {
     /// The log.
-    pub(crate) log: Contents,
+    pub(crate) log: Rc<Contents>,
     /// The database file.
-    pub(crate) db: Contents,
+    pub(crate) db: Rc<Contents>,
     /// Which calls fail.
-    pub(crate) plan: CallPlan,
+    pub(crate) plan: Rc<CallPlan>,
 }
 
-/// A disk of a bench.
-pub(crate) type BenchDisk<'a> = Failing<'a, Memory>;
-
 /// Returns a disk over contents.
-fn disk_over<'a>(
-    alloc: Global,
-    contents: &'a Contents,
-    plan: &'a CallPlan,
-) -> Option<BenchDisk<'a>> {
-    match loaded(alloc, contents.left(false)) {
-        Some(memory) => Some(Failing::new(memory, contents, plan)),
-        None => None,
-    }
+fn disk_over(alloc: Global, contents: &Rc<Contents>, plan: &Rc<CallPlan>) -> Option<BenchDisk> {
+    let memory = loaded(alloc, contents.left(false))?;
+    let contents = contents.clone().ok()?;
+    let plan = plan.clone().ok()?;
+    Some(BenchDisk::new(memory, contents, plan))
 }
 
 impl Bench {
     /// Returns files that are empty.
-    fn empty(alloc: Global) -> Bench {
-        Bench {
-            log: Contents::new(alloc),
-            db: Contents::new(alloc),
-            plan: CallPlan::new(),
-        }
+    ///
+    /// Errors: lack of memory.
+    fn empty(alloc: Global) -> Result<Bench, AllocError> {
+        Ok(Bench {
+            log: Rc::new(alloc, Contents::new(alloc))?,
+            db: Rc::new(alloc, Contents::new(alloc))?,
+            plan: Rc::new(alloc, CallPlan::new())?,
+        })
     }
 
     /// Takes what the files of another bench have, as synced.
@@ -58,7 +54,7 @@ impl Bench {
 
     /// Returns a copy of the files, of which all calls succeed, or None if memory runs out.
     pub(crate) fn copied(&self, alloc: Global) -> Option<Bench> {
-        let bench = Bench::empty(alloc);
+        let bench = Bench::empty(alloc).ok()?;
         match bench.take(self) {
             Ok(()) => Some(bench),
             Err(_) => None,
@@ -71,7 +67,7 @@ impl Bench {
     }
 
     /// Returns the files as disks, or None if memory runs out.
-    pub(crate) fn files(&self, alloc: Global) -> Option<Files<BenchDisk<'_>>> {
+    pub(crate) fn files(&self, alloc: Global) -> Option<Files<BenchDisk>> {
         let log = disk_over(alloc, &self.log, &self.plan)?;
         let db = disk_over(alloc, &self.db, &self.plan)?;
         Some(Files { log, db })
@@ -91,7 +87,7 @@ fn is_made(alloc: Global, bench: &Bench) -> bool {
 
 /// Returns the files of a store without requests and runs.
 pub(crate) fn created(alloc: Global) -> Result<Bench, Fail> {
-    let bench = Bench::empty(alloc);
+    let bench = Bench::empty(alloc)?;
     if !is_made(alloc, &bench) {
         return Err("no store".into());
     }

@@ -1,4 +1,5 @@
-//! One call of the disk that fails, and two, in a course of an append, a tidying up, and another append.
+//! One call of the disk that fails, and two, in a course of an append, a tidying up, and another append; and one in a course
+//! with two compactions, which keep all requests.
 //!
 //! A call that fails has done nothing, and a sync that fails so has lost what was not synced; or, if it is no read, it has
 //! done all that it was asked. Calls are counted from the first append on, as the course makes them: those of opening the
@@ -14,6 +15,7 @@ use std::alloc::Global;
 use std::test::Fail;
 use std::time::Clock;
 use ups_journal::Record;
+use ups_ledger::Ledger;
 
 /// No course makes as many calls.
 const MOST: u32 = 10_000;
@@ -34,9 +36,22 @@ enum Second {
     Lasting,
 }
 
-/// Which calls fail in a course: one, and those from a later one on.
+/// What a course does.
+#[derive(Clone, Copy, PartialEq, Eq)]
+enum Work {
+    /// It appends, tidies up, and appends.
+    Tidying,
+    /// It appends and compacts, twice.
+    Compacting,
+}
+
+/// How many slices a compaction has at most.
+const SLICES: u32 = 12;
+
+/// What a course does, and which calls fail in it: one, and those from a later one on.
 #[derive(Clone, Copy)]
 struct Trouble {
+    work: Work,
     first: Fault,
     /// The number of the second call.
     call: u32,
@@ -53,7 +68,7 @@ fn end_of(second: Second) -> CallEnd {
 }
 
 /// Plans the failures of a course.
-fn plan(course: &Course<'_>, trouble: Trouble) {
+fn plan<L: Ledger>(course: &Course<'_, '_, L>, trouble: Trouble) {
     let second = Fault {
         call: trouble.call,
         end: end_of(trouble.second),
@@ -83,13 +98,13 @@ const UNMADE: Told = Told {
 };
 
 /// Lets a request arrive, and appends.
-fn appended(course: &mut Course<'_>) -> Verdict {
+fn appended<L: Ledger>(course: &mut Course<'_, '_, L>) -> Verdict {
     let _ = course.commit(1);
     course.verdict()
 }
 
 /// Appends, tidies up, and appends.
-fn taken(course: &mut Course<'_>) -> Verdict {
+fn tidied<L: Ledger>(course: &mut Course<'_, '_, L>) -> Verdict {
     match appended(course) {
         Verdict::Right => {
             course.tidy();
@@ -99,10 +114,41 @@ fn taken(course: &mut Course<'_>) -> Verdict {
     }
 }
 
+/// Compacts, as far as no call fails.
+fn compact<L: Ledger>(course: &mut Course<'_, '_, L>) {
+    for _slice in 0..SLICES {
+        if course.tend() {
+            return;
+        }
+    }
+}
+
+/// Appends, and compacts.
+fn appended_and_compacted<L: Ledger>(course: &mut Course<'_, '_, L>) -> Verdict {
+    match appended(course) {
+        Verdict::Right => {
+            compact(course);
+            course.verdict()
+        }
+        wrong => wrong,
+    }
+}
+
+/// Does the work of a course.
+fn taken<L: Ledger>(course: &mut Course<'_, '_, L>, work: Work) -> Verdict {
+    if work == Work::Tidying {
+        return tidied(course);
+    }
+    match appended_and_compacted(course) {
+        Verdict::Right => appended_and_compacted(course),
+        wrong => wrong,
+    }
+}
+
 /// Takes a course with this trouble.
-fn told_by(course: &mut Course<'_>, trouble: Trouble) -> Told {
+fn told_by<L: Ledger>(course: &mut Course<'_, '_, L>, trouble: Trouble) -> Told {
     plan(course, trouble);
-    let verdict = taken(course);
+    let verdict = taken(course, trouble.work);
     let calls = course.bench.plan.calls();
     let is_read = course.bench.plan.failed_to_read();
     let verdict = match verdict {
@@ -116,16 +162,31 @@ fn told_by(course: &mut Course<'_>, trouble: Trouble) -> Told {
     }
 }
 
-/// The same, in these files.
-fn told_on<R: Clock + Log>(
+/// The same, with this ledger in these files.
+fn told_with<'a, L: Ledger>(
+    ledger: L,
+    alloc: Global,
+    bench: &'a Bench,
+    history: &'a [Record<Global>],
+    trouble: Trouble,
+) -> Told {
+    let mut ledger = ledger;
+    told_by(
+        &mut Course::new(alloc, bench, history, &mut ledger),
+        trouble,
+    )
+}
+
+/// The same, with the ledger that a start returns.
+fn told_on<'a, R: Clock + Log>(
     rt: &R,
     alloc: Global,
-    bench: &Bench,
-    history: &[Record<Global>],
+    bench: &'a Bench,
+    history: &'a [Record<Global>],
     trouble: Trouble,
 ) -> Told {
     match begun(rt, alloc, bench) {
-        Some(ledger) => told_by(&mut Course::new(alloc, bench, history, ledger), trouble),
+        Some(ledger) => told_with(ledger, alloc, bench, history, trouble),
         None => UNMADE,
     }
 }
@@ -144,47 +205,36 @@ fn told_of<R: Clock + Log>(
     }
 }
 
-/// Counts the courses in which a call fails, and a later one as well.
+/// Counts the courses in which a call fails, and each later one as well, one after the other.
 fn count_second<R: Clock + Log>(
     rt: &R,
     alloc: Global,
     made: &Bench,
     history: &[Record<Global>],
     counts: &mut Counts,
-    first: Fault,
-    second: Second,
+    trouble: Trouble,
 ) {
-    for earlier in first.call..MOST {
+    for earlier in trouble.first.call..MOST {
         let call = earlier.saturating_add(1);
-        let trouble = Trouble {
-            first,
-            call,
-            second,
-        };
+        let trouble = Trouble { call, ..trouble };
         let told = told_of(rt, alloc, made, history, trouble);
         if told.calls < call {
             return;
         }
-        if second != Second::Done || !told.is_read {
+        if trouble.second != Second::Done || !told.is_read {
             counts.add(told.verdict);
         }
     }
 }
 
-/// Returns what is told of the course in which one call fails.
-fn told_alone<R: Clock + Log>(
-    rt: &R,
-    alloc: Global,
-    made: &Bench,
-    history: &[Record<Global>],
-    first: Fault,
-) -> Told {
-    let trouble = Trouble {
+/// Returns the trouble of a course in which a call fails, and a second one, that is none of the course's.
+fn trouble_of(work: Work, first: Fault, second: Second) -> Trouble {
+    Trouble {
+        work,
         first,
         call: MOST,
-        second: Second::Undone,
-    };
-    told_of(rt, alloc, made, history, trouble)
+        second,
+    }
 }
 
 /// Counts the courses in which two calls fail.
@@ -199,12 +249,14 @@ fn counted<R: Clock + Log>(
     let mut counts = Counts::new();
     for call in 1..MOST {
         let first = Fault { call, end };
-        let alone = told_alone(rt, alloc, made, history, first);
-        if alone.calls < call {
+        let alone = trouble_of(Work::Tidying, first, Second::Undone);
+        let told = told_of(rt, alloc, made, history, alone);
+        if told.calls < call {
             return counts;
         }
-        if end != CallEnd::Done || !alone.is_read {
-            count_second(rt, alloc, made, history, &mut counts, first, second);
+        if end != CallEnd::Done || !told.is_read {
+            let trouble = trouble_of(Work::Tidying, first, second);
+            count_second(rt, alloc, made, history, &mut counts, trouble);
         }
     }
     counts
@@ -223,11 +275,17 @@ fn pairs<R: Clock + Log>(
 }
 
 /// Returns the counts of the courses in which one call fails, or all from one on.
-fn singles<R: Clock + Log>(rt: &R, alloc: Global, second: Second) -> Result<Counts, Fail> {
+fn singles<R: Clock + Log>(
+    rt: &R,
+    alloc: Global,
+    work: Work,
+    second: Second,
+) -> Result<Counts, Fail> {
     let history = history(alloc, REQUESTS)?;
     let made = made(rt, alloc)?;
     let mut counts = Counts::new();
-    count_second(rt, alloc, &made, &history, &mut counts, NO_FAULT, second);
+    let trouble = trouble_of(work, NO_FAULT, second);
+    count_second(rt, alloc, &made, &history, &mut counts, trouble);
     Ok(counts)
 }
 
@@ -242,22 +300,42 @@ fn expect_all_right(counts: Counts) -> Result<(), Fail> {
 
 #[test]
 fn a_call_that_does_nothing_breaks_nothing(rt: HostRuntime) -> Result<(), Fail> {
-    expect_all_right(singles(&rt, rt.alloc(), Second::Undone)?)
+    expect_all_right(singles(&rt, rt.alloc(), Work::Tidying, Second::Undone)?)
 }
 
 #[test]
 fn a_call_that_does_all_breaks_nothing(rt: HostRuntime) -> Result<(), Fail> {
-    expect_all_right(singles(&rt, rt.alloc(), Second::Done)?)
+    expect_all_right(singles(&rt, rt.alloc(), Work::Tidying, Second::Done)?)
 }
 
 #[test]
 fn a_call_without_room_breaks_nothing(rt: HostRuntime) -> Result<(), Fail> {
-    expect_all_right(singles(&rt, rt.alloc(), Second::NoRoom)?)
+    expect_all_right(singles(&rt, rt.alloc(), Work::Tidying, Second::NoRoom)?)
 }
 
 #[test]
 fn failures_that_last_break_nothing(rt: HostRuntime) -> Result<(), Fail> {
-    expect_all_right(singles(&rt, rt.alloc(), Second::Lasting)?)
+    expect_all_right(singles(&rt, rt.alloc(), Work::Tidying, Second::Lasting)?)
+}
+
+#[test]
+fn a_call_that_does_nothing_breaks_no_compaction(rt: HostRuntime) -> Result<(), Fail> {
+    expect_all_right(singles(&rt, rt.alloc(), Work::Compacting, Second::Undone)?)
+}
+
+#[test]
+fn a_call_that_does_all_breaks_no_compaction(rt: HostRuntime) -> Result<(), Fail> {
+    expect_all_right(singles(&rt, rt.alloc(), Work::Compacting, Second::Done)?)
+}
+
+#[test]
+fn a_call_without_room_breaks_no_compaction(rt: HostRuntime) -> Result<(), Fail> {
+    expect_all_right(singles(&rt, rt.alloc(), Work::Compacting, Second::NoRoom)?)
+}
+
+#[test]
+fn failures_that_last_break_no_compaction(rt: HostRuntime) -> Result<(), Fail> {
+    expect_all_right(singles(&rt, rt.alloc(), Work::Compacting, Second::Lasting)?)
 }
 
 #[test]

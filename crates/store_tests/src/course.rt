@@ -2,6 +2,7 @@
 //! arrived since behind it.
 
 use crate::bench::{Bench, created};
+use crate::keeping::{BenchNaming, BenchStore};
 use crate::place::BenchPlace;
 use crate::recovering::recovered;
 use log::Log;
@@ -9,10 +10,11 @@ use std::alloc::{AllocError, Global};
 use std::test::Fail;
 use std::time::Clock;
 use ups_journal::{Columns, Record, RecordedOperation};
-use ups_ledger::{Keeper, Ledger, LedgerFault};
+use ups_lasting::LastingLedger;
+use ups_ledger::{DropHere, Keeper, Ledger, LedgerFault, Tending};
 use ups_manager::Manager;
 use ups_pdu::Bytes;
-use ups_start::{Run, StartChoices, StoreLedger, begin};
+use ups_start::{Run, StartChoices, begin};
 
 /// What a course shows of the ledger.
 #[derive(Clone, Copy, Debug, PartialEq, Eq)]
@@ -64,15 +66,16 @@ impl Counts {
     }
 }
 
-/// Returns the request with this number in the history, from 0.
+/// Returns the request with this number in the history, from 0. It reserves a UID, so each compaction keeps it.
 fn record_of(alloc: Global, number: u64) -> Result<Record<Global>, AllocError> {
+    let uid = format!(in alloc; "1.2.{number}")?;
     Ok(Record {
         caller: 0,
         title: Bytes::copy_of(alloc, b"A")?,
         moment: number,
         request: Columns {
-            operation: RecordedOperation::Sweep,
-            instance: None,
+            operation: RecordedOperation::Reserve,
+            instance: Some(Bytes::copy_of(alloc, uid.as_bytes())?),
             transaction_uid: None,
             state: None,
             receiver: None,
@@ -101,7 +104,7 @@ pub(crate) fn begun<'a, R: Clock + Log>(
     rt: &R,
     alloc: Global,
     bench: &'a Bench,
-) -> Option<StoreLedger<'a, BenchPlace<'a>>> {
+) -> Option<LastingLedger<BenchStore<'a>>> {
     let Ok(mut manager) = Manager::new(alloc, &[], 60, 0, 1_000) else {
         return None;
     };
@@ -117,16 +120,30 @@ pub(crate) fn begun<'a, R: Clock + Log>(
         terms: TERMS,
     };
     let place = BenchPlace::new(alloc, bench);
-    match begin(alloc, rt, place, choices, about, &mut manager) {
+    match begin(alloc, rt, &BenchNaming, place, choices, about, &mut manager) {
         Ok(Keeper { ledger, .. }) => Some(ledger),
         Err(_) => None,
+    }
+}
+
+/// Drops a ledger. Where its type is known, the proof of a drop goes through all of its parts.
+fn close<L: Ledger>(_ledger: L) {}
+
+/// Begins on the store in the files of a bench, and returns whether it did.
+fn has_begun<R: Clock + Log>(rt: &R, alloc: Global, bench: &Bench) -> bool {
+    match begun(rt, alloc, bench) {
+        Some(ledger) => {
+            close(ledger);
+            true
+        }
+        None => false,
     }
 }
 
 /// Returns the files of a store that has a run, and no requests.
 pub(crate) fn made<R: Clock + Log>(rt: &R, alloc: Global) -> Result<Bench, Fail> {
     let bench = created(alloc)?;
-    if begun(rt, alloc, &bench).is_none() {
+    if !has_begun(rt, alloc, &bench) {
         return Err("no run".into());
     }
     Ok(bench)
@@ -134,25 +151,25 @@ pub(crate) fn made<R: Clock + Log>(rt: &R, alloc: Global) -> Result<Bench, Fail>
 
 /// A ledger, with how many requests of a history have arrived, and how many it told committed.
 #[derive(Drop)]
-pub(crate) struct Course<'a> {
+pub(crate) struct Course<'a, 'l, L: Ledger> {
     alloc: Global,
     /// The files.
     pub(crate) bench: &'a Bench,
     history: &'a [Record<Global>],
-    ledger: StoreLedger<'a, BenchPlace<'a>>,
+    ledger: &'l mut L,
     arrived: usize,
     committed: usize,
     is_lost: bool,
 }
 
-impl<'a> Course<'a> {
+impl<'a, 'l, L: Ledger> Course<'a, 'l, L> {
     /// Returns the course in which no request has arrived.
     pub(crate) fn new(
         alloc: Global,
         bench: &'a Bench,
         history: &'a [Record<Global>],
-        ledger: StoreLedger<'a, BenchPlace<'a>>,
-    ) -> Course<'a> {
+        ledger: &'l mut L,
+    ) -> Course<'a, 'l, L> {
         Course {
             alloc,
             bench,
@@ -180,6 +197,14 @@ impl<'a> Course<'a> {
             Err(_) => {}
         }
         answer
+    }
+
+    /// Does a slice of a compaction, which is due after one request, and returns whether it is done.
+    pub(crate) fn tend(&mut self) -> bool {
+        match self.ledger.tend(0, 1, &DropHere) {
+            Ok(Tending::Compacted { .. }) => true,
+            Ok(_) | Err(_) => false,
+        }
     }
 
     /// Tidies up the ledger.

@@ -8,13 +8,14 @@ use crate::contents::Contents;
 use crate::plan::{Call, CallEnd, CallPlan};
 use sqlite_disk::{Disk, Tally};
 use std::io::{self, ErrorKind};
+use std::rc::Rc;
 
 /// A disk whose calls fail as planned, and whose contents outlive it.
 #[derive(Drop)]
-pub(crate) struct Failing<'a, D: Disk> {
+pub(crate) struct Failing<D: Disk> {
     inner: D,
-    contents: &'a Contents,
-    plan: &'a CallPlan,
+    contents: Rc<Contents>,
+    plan: Rc<CallPlan>,
     /// How many calls failed that the inner disk did not refuse.
     failed: u64,
     /// How many of these found no room.
@@ -22,9 +23,9 @@ pub(crate) struct Failing<'a, D: Disk> {
     is_sync_failed: bool,
 }
 
-impl<'a, D: Disk> Failing<'a, D> {
+impl<D: Disk> Failing<D> {
     /// Returns a disk with what the inner one has, which is what `contents` has.
-    pub(crate) fn new(inner: D, contents: &'a Contents, plan: &'a CallPlan) -> Failing<'a, D> {
+    pub(crate) fn new(inner: D, contents: Rc<Contents>, plan: Rc<CallPlan>) -> Failing<D> {
         Failing {
             inner,
             contents,
@@ -79,7 +80,7 @@ fn settled(end: CallEnd, contents: &Contents) -> CallEnd {
     end
 }
 
-impl<D: Disk> Disk for Failing<'_, D> {
+impl<D: Disk> Disk for Failing<D> {
     ghost seen = { λ f. D.Disk.seen f.inner };
 
     ghost may_leave = { λ f. D.Disk.may_leave f.inner };
@@ -169,7 +170,7 @@ impl<D: Disk> Disk for Failing<'_, D> {
     }
 
     fn sync(&mut self) -> io::Result<()> {
-        let end = settled(self.plan.next(Call::Sync), self.contents);
+        let end = settled(self.plan.next(Call::Sync), &self.contents);
         if end != CallEnd::Success {
             self.is_sync_failed = true;
             return Err(failure(end, &mut self.failed, &mut self.full));

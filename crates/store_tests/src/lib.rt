@@ -8,6 +8,8 @@ mod appends;
 #[cfg(test)]
 mod bench;
 #[cfg(test)]
+mod bench_disk;
+#[cfg(test)]
 mod calls;
 #[cfg(test)]
 mod contents;
@@ -15,6 +17,8 @@ mod contents;
 mod course;
 #[cfg(test)]
 mod failing;
+#[cfg(test)]
+mod keeping;
 #[cfg(test)]
 mod place;
 #[cfg(test)]

@@ -6,7 +6,8 @@ ghost use Rattle.sqlite_trees.specs.View.{doubt};
 ghost use Rattle.ups_store.specs.Shown.{requests_shown, given_out};
 ghost use Rattle.ups_start.specs.Shelved.{CanLeave};
 
-use crate::bench::{Bench, BenchDisk, SEED};
+use crate::bench::{Bench, SEED};
+use crate::bench_disk::BenchDisk;
 use sqlite_disk::Disk;
 use sqlite_store::FileStore;
 use std::alloc::Global;
@@ -28,7 +29,7 @@ impl<'a> BenchPlace<'a> {
 }
 
 /// Opens the store in the files of a bench.
-fn opened(alloc: Global, bench: &Bench) -> Result<Replay<FileStore<BenchDisk<'_>>>, OpenFault>
+fn opened(alloc: Global, bench: &Bench) -> Result<Replay<FileStore<BenchDisk>>, OpenFault>
     ensures first { IfOk result (λ r. given_out r ≡ []) }
 {
     let Some(files) = bench.files(alloc) else {
@@ -43,12 +44,12 @@ fn opened(alloc: Global, bench: &Bench) -> Result<Replay<FileStore<BenchDisk<'_>
     }
 }
 
-impl<'a> StorePlace for BenchPlace<'a> {
-    type Store = FileStore<BenchDisk<'a>>;
+impl StorePlace for BenchPlace<'_> {
+    type Store = FileStore<BenchDisk>;
 
     ghost finds = { λ _ _. Unit {0} };
 
-    fn open(&self) -> Result<Replay<FileStore<BenchDisk<'a>>>, OpenFault>
+    fn open(&self) -> Result<Replay<FileStore<BenchDisk>>, OpenFault>
         ensures first { IfOk result (λ r. given_out r ≡ []) }
         ensures found { IfOk result (λ _. Unit {0}) }
     {
@@ -61,7 +62,7 @@ impl<'a> StorePlace for BenchPlace<'a> {
         opened
     }
 
-    fn checkpoint(store: &mut RequestStore<FileStore<BenchDisk<'a>>>) -> Result<(), StoreFault>
+    fn checkpoint(store: &mut RequestStore<FileStore<BenchDisk>>) -> Result<(), StoreFault>
         ensures same { IsTrue (requests_shown store.new).is_open → requests_shown store.new ≡ requests_shown store.old }
         ensures clean { doubt (requests_shown store.old).is_clean ≤ doubt (requests_shown store.new).is_clean }
         ensures crash { (db : Trees) → CanLeave store.new db → CanLeave store.old db }

@@ -14,7 +14,7 @@ use Rattle.ups_args.specs.declared.fault.ArgumentFault.{ArgumentFault}
 use Rattle.ups_args.specs.declared.fault.ArgumentFault.TheVariants as faults
 use Rattle.ups_args.specs.declared.peers.PeerLine.{PeerLine}
 use Rattle.ups_args.specs.declared.peers.PeerLine.TheVariants as lines
-use Rattle.ups_peers.specs.Limits.{default_workers, delivery_seconds, idle_seconds, timeout_seconds, workers_limit}
+use Rattle.ups_peers.specs.Limits.{compact_at_limit, default_compact_at, default_workers, delivery_seconds, idle_seconds, timeout_seconds, workers_limit}
 use Rattle.ups_settings.specs.Defaults.{keep_seconds, local_offset}
 
 -- a number of seconds below 2^32, in decimal digits, with or without a + in front
@@ -73,6 +73,18 @@ SaysTimeout = SaysSecondsOr timeout_seconds
 -- the most seconds to wait for a watcher, to connect to it and for each answer, by this word or by default
 abbrev pub SaysDeliveryTimeout : Option (List ℕ) → ℕ → Type 0
 SaysDeliveryTimeout = SaysSecondsOr delivery_seconds
+
+-- the number of records appended to the store before it is compacted, in decimal digits, with or without a + in front
+pub record SaysCompactAt (word : List ℕ) (count : ℕ) : Type 0 where
+  pub numeral : IsNumeral 10 (without_leading_plus word)
+  pub value : count ≡ digits_value 10 (without_leading_plus word)
+  pub least : 1 ≤ count
+  pub most : count ≤ compact_at_limit
+
+-- the same, by this word or by default
+abbrev pub SaysCompactAtOrNot : Option (List ℕ) → ℕ → Type 0
+SaysCompactAtOrNot None count = count ≡ default_compact_at
+SaysCompactAtOrNot (Some word) count = SaysCompactAt word count
 
 -- the address to listen on: this word, or 127.0.0.1 if there is none
 abbrev pub SaysBind : Option (List ℕ) → List ℕ → Type 0
@@ -218,6 +230,7 @@ FailToLimit found faults.Associations = (count : ℕ) → SaysWorkersOrNot (firs
 FailToLimit found faults.Idle = (idle : ℕ) → SaysIdle (first_value found (codes "idle")) idle → ⊥
 FailToLimit found faults.Timeout = (timeout : ℕ) → SaysTimeout (first_value found (codes "timeout")) timeout → ⊥
 FailToLimit found faults.DeliveryTimeout = (timeout : ℕ) → SaysDeliveryTimeout (first_value found (codes "delivery-timeout")) timeout → ⊥
+FailToLimit found faults.CompactAt = (count : ℕ) → SaysCompactAtOrNot (first_value found (codes "compact-at")) count → ⊥
 FailToLimit found fault = ⊥
 
 -- why the words ask nothing of `serve`: the word after `--ae` spells no AE title, or that after `--port` says no port; the

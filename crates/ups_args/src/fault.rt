@@ -42,6 +42,9 @@ pub enum ArgumentFault<'a> {
     /// The word after `--delivery-timeout` is not a number of seconds.
     #[error("--delivery-timeout takes a number of seconds, from 0 to 4294967295; 0 stands for an hour")]
     DeliveryTimeout,
+    /// The word after `--compact-at` is not a number of requests.
+    #[error("--compact-at takes a number of requests, from 1 to 1000000000")]
+    CompactAt,
     /// Memory ran out.
     #[error("out of memory")]
     Memory,

@@ -2,7 +2,7 @@
 
 ghost use Rattle.std.specs.Prelude.{◌≡◌, ◌≤◌, ℕ, [], codes, length, None, option_map, IfErr, IfOk, MatchResult, unwrap_or};
 ghost use Rattle.clap.specs.Matches.{first_value, found_of};
-ghost use Rattle.ups_args.specs.Arguments.{FailToAskServe, FailToLimit, IsFlag, NamePeers, NameWatchers, SaysBind, SaysDeliveryTimeout, SaysIdle, SaysKeep, SaysOffset, SaysPort, SaysTimeout, SaysWorkers, SaysWorkersOrNot, argument_words};
+ghost use Rattle.ups_args.specs.Arguments.{FailToAskServe, FailToLimit, IsFlag, NamePeers, NameWatchers, SaysBind, SaysCompactAt, SaysCompactAtOrNot, SaysDeliveryTimeout, SaysIdle, SaysKeep, SaysOffset, SaysPort, SaysTimeout, SaysWorkers, SaysWorkersOrNot, argument_words};
 ghost use Rattle.ups_life.specs.Limits.{history_limit, peer_limit};
 ghost use Rattle.ups_peers.specs.Limits.{turns_limit, workers_limit};
 ghost use Rattle.ups_settings.specs.Refusal.{refusal};
@@ -20,7 +20,8 @@ use std::alloc::{AllocError, Global};
 use ups_life::Peer;
 use ups_pdu::Ae;
 use ups_peers::{
-    DELIVERY_TIMEOUT, IDLE, MAX_WORKERS, ServerLimits, TIMEOUT, TURNS, WORKERS, Watcher,
+    COMPACT_AT, DELIVERY_TIMEOUT, IDLE, MAX_COMPACT_AT, MAX_WORKERS, ServerLimits, TIMEOUT, TURNS,
+    WORKERS, Watcher,
 };
 use ups_terms::StartChoices;
 
@@ -125,6 +126,33 @@ fn workers_asked(word: Option<&str>) -> Result<u32, ArgumentFault<'_>>
     }
 }
 
+/// Parses the number of records that the store takes before it is compacted.
+///
+/// Errors: CompactAt if it is not a number from 1 to 1,000,000,000.
+fn compact_at_of(word: &str) -> Result<u64, ArgumentFault<'_>>
+    ensures said { MatchResult result (SaysCompactAt word.now) (λ _. (count : ℕ) → SaysCompactAt word.now count → ⊥) }
+    ensures fault { IfErr result (λ fault. fault ≡ ArgumentFault.CompactAt) }
+{
+    match word.parse::<u64>() {
+        Ok(count) if 1 <= count && count <= MAX_COMPACT_AT => Ok(count),
+        _ => Err(ArgumentFault::CompactAt),
+    }
+}
+
+/// Returns how many records the store takes before it is compacted, from the word after `--compact-at`, or 50,000
+/// without one.
+///
+/// Errors: those of `compact_at_of`.
+fn compact_at_asked(word: Option<&str>) -> Result<u64, ArgumentFault<'_>>
+    ensures said { MatchResult result (SaysCompactAtOrNot (option_map (λ w. w.now) word.entry)) (λ _. (count : ℕ) → SaysCompactAtOrNot (option_map (λ w. w.now) word.entry) count → ⊥) }
+    ensures fault { IfErr result (λ fault. fault ≡ ArgumentFault.CompactAt) }
+{
+    match word {
+        Some(word) => compact_at_of(word),
+        None => Ok(COMPACT_AT),
+    }
+}
+
 /// Returns the address to listen on, from the word after `--bind`, or 127.0.0.1 without one.
 fn bind_asked<'a>(word: Option<&'a str>) -> &'a str
     ensures { SaysBind (option_map (λ w. w.now) word.entry) result.now }
@@ -135,20 +163,21 @@ fn bind_asked<'a>(word: Option<&'a str>) -> &'a str
     }
 }
 
-/// Returns what a server allows its peers.
+/// Returns what a server allows its peers, and how far its store grows.
 ///
 /// An association may be silent between two messages for the seconds of the word after `--idle`, or 60 without one. A
 /// peer may take those of the word after `--timeout`, or 60 without one, for each message that it has begun to send, and
 /// to take each answer. In both, 0 means no limit. A watcher may take those of the word after `--delivery-timeout`, or 5
 /// without one; 0 means an hour for each answer, and ten seconds if it is neither away nor slow.
 ///
-/// Errors: Associations, Idle, Timeout or DeliveryTimeout for the first of these words that is invalid.
+/// Errors: Associations, Idle, Timeout, DeliveryTimeout or CompactAt for the first of these words that is invalid.
 fn limits_asked<'a>(matches: &ArgMatches<'a>) -> Result<ServerLimits, ArgumentFault<'a>>
     ensures workers { IfOk result (λ limits. SaysWorkersOrNot (first_value (found_of matches.now) (codes "associations")) limits.workers) }
     ensures turns { IfOk result (λ limits. limits.turns ≡ turns_limit) }
     ensures idle { IfOk result (λ limits. SaysIdle (first_value (found_of matches.now) (codes "idle")) limits.idle) }
     ensures timeout { IfOk result (λ limits. SaysTimeout (first_value (found_of matches.now) (codes "timeout")) limits.timeout) }
     ensures delivery_timeout { IfOk result (λ limits. SaysDeliveryTimeout (first_value (found_of matches.now) (codes "delivery-timeout")) limits.delivery_timeout) }
+    ensures compact_at { IfOk result (λ limits. SaysCompactAtOrNot (first_value (found_of matches.now) (codes "compact-at")) limits.compact_at) }
     ensures some { IfOk result (λ limits. 1 ≤ limits.workers) }
     ensures most { IfOk result (λ limits. limits.workers ≤ workers_limit) }
     ensures refused { IfErr result (FailToLimit (found_of matches.now)) }
@@ -163,6 +192,7 @@ fn limits_asked<'a>(matches: &ArgMatches<'a>) -> Result<ServerLimits, ArgumentFa
             DELIVERY_TIMEOUT,
             ArgumentFault::DeliveryTimeout,
         )?,
+        compact_at: compact_at_asked(matches.get_str("compact-at"))?,
     })
 }
 
@@ -183,8 +213,8 @@ pub struct ServeArguments<'a> {
     pub keep: u32,
     /// The offset of the local time from UTC in minutes, positive east of it.
     pub offset: i16,
-    /// The number of associations that are served at the same time, the number of PDUs of each, and how long each is
-    /// waited for.
+    /// The number of associations that are served at the same time, the number of PDUs of each, how long each is waited
+    /// for, and when the store is compacted.
     pub limits: ServerLimits,
     /// The file in which accepted requests are kept, if there is one.
     pub store: Option<&'a str>,
@@ -221,6 +251,7 @@ pub fn serve_arguments<'a>(
     ensures idle { IfOk result (λ asked. SaysIdle (first_value (found_of matches.now) (codes "idle")) asked.limits.idle) }
     ensures timeout { IfOk result (λ asked. SaysTimeout (first_value (found_of matches.now) (codes "timeout")) asked.limits.timeout) }
     ensures delivery_timeout { IfOk result (λ asked. SaysDeliveryTimeout (first_value (found_of matches.now) (codes "delivery-timeout")) asked.limits.delivery_timeout) }
+    ensures compact_at { IfOk result (λ asked. SaysCompactAtOrNot (first_value (found_of matches.now) (codes "compact-at")) asked.limits.compact_at) }
     ensures store { IfOk result (λ asked. option_map (λ w. w.now) asked.store ≡ first_value (found_of matches.now) (codes "store")) }
     ensures leave_out { IfOk result (λ asked. IsFlag (found_of matches.now) (codes "store-leave-out") asked.choices.may_leave_out) }
     ensures compact { IfOk result (λ asked. IsFlag (found_of matches.now) (codes "compact") asked.choices.may_compact) }

@@ -13,11 +13,15 @@ pub(crate) fn with_store<'a>(
     let store =
         "the file that keeps accepted requests over a restart [default: none, memory alone]";
     let compact = "compact the store at this start, if more than half of its requests then go";
+    let compact_at =
+        "how many requests the store takes before it is compacted while the server runs [default: 50000]";
+    let compact_at = worded(alloc, "compact-at", "N", compact_at);
     command
         .arg(naming_file(worded(alloc, "store", "FILE", store)))?
         .arg(leave_out_flag(alloc).requires_arg("store")?)?
         .arg(other_settings_flag(alloc).requires_arg("store")?)?
-        .arg(flag(alloc, "compact", compact).requires_arg("store")?)
+        .arg(flag(alloc, "compact", compact).requires_arg("store")?)?
+        .arg(compact_at.requires_arg("store")?)
 }
 
 /// Returns the argument that names the file of a store.

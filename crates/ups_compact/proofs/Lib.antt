@@ -19,6 +19,7 @@ mod Pending
 mod Room
 mod Shifted
 pub mod Shifting
+mod Sorting
 pub mod Standing
 mod Staying
 pub mod Summing

@@ -2,3 +2,4 @@ pub mod Compacting
 pub mod Course
 pub mod Shifting
 pub mod Shifts
+pub mod Sorting

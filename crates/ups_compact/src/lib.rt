@@ -13,5 +13,5 @@ mod turn;
 pub use paying::pays;
 pub use reserving::reservation;
 pub use shifts::{Shift, Shifts};
-pub use steps::KeptSteps;
+pub use steps::{KeptSteps, StepSorting};
 pub use turn::Turn;

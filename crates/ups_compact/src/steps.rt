@@ -1,6 +1,6 @@
 //! The steps that a compact history keeps.
 
-ghost use Rattle.std.specs.Prelude.{◌≡◌, ◌||◌, ℕ, List, length, IfOk, OnOk};
+ghost use Rattle.std.specs.Prelude.{◌≡◌, ◌||◌, ℕ, List, length, IfOk, IfErr, OnOk};
 ghost use Rattle.std.specs.Str.{bytes_eq};
 ghost use Rattle.ups_match.specs.Uids.{has_uid};
 ghost use Rattle.ups_life.specs.Watching.{is_among};
@@ -81,6 +81,80 @@ impl<A: Allocator + Copy> KeptSteps<A> {
     }
 }
 
+/// The steps that a compact history is to keep, whose UIDs are put in order a few at a time. A contract sees the list of
+/// the steps.
+#[derive(Drop)]
+pub struct StepSorting<A: Allocator + Copy> {
+    steps: Vec<StepUid, A>,
+    uids: BTreeSet<Vec<u8, A>, A>,
+    /// The number of steps, the first ones, whose UIDs are in order.
+    sorted: usize,
+}
+
+impl<A: Allocator + Copy> Model for StepSorting<A> {
+    ghost use Rattle.std.specs.Prelude.{ℕ, List};
+    ghost use Rattle.ups_compact.specs.Sorting.{AreSorted};
+
+    ghost Value = { List (List ℕ) };
+
+    ghost view = { λ k. k.steps.items };
+
+    ghost invariant = { λ k. AreSorted k.uids k.sorted k.steps.items };
+}
+
+impl<A: Allocator + Copy> StepSorting<A> {
+    /// Returns the steps, as `Manager::held` lists them, of which no UID is put in order yet.
+    pub fn new(alloc: A, steps: Vec<StepUid, A>) -> StepSorting<A>
+        ensures { result ≡ steps.items }
+    {
+        StepSorting {
+            steps,
+            uids: BTreeSet::new(alloc),
+            sorted: 0,
+        }
+    }
+
+    /// Puts the UIDs of the next steps in order, at most `most`.
+    ///
+    /// # Errors
+    ///
+    /// If memory runs out.
+    pub fn sort_on(self, alloc: A, most: usize) -> Result<StepSorting<A>, AllocError>
+        ensures { IfOk result (λ next. next ≡ self) }
+    {
+        let StepSorting {
+            steps,
+            mut uids,
+            sorted,
+        } = self;
+        let (_, rest) = steps.as_slice().split_at(sorted);
+        let count = most.min(rest.len());
+        put_uids(alloc, &mut uids, &rest[..count])?;
+        let sorted = sorted + count;
+        Ok(StepSorting {
+            steps,
+            uids,
+            sorted,
+        })
+    }
+
+    /// Returns the kept steps.
+    ///
+    /// # Errors
+    ///
+    /// The same steps, if not all UIDs are in order.
+    pub fn finish(self) -> Result<KeptSteps<A>, StepSorting<A>>
+        ensures kept { IfOk result (λ kept. kept ≡ self) }
+        ensures same { IfErr result (λ same. same ≡ self) }
+    {
+        if self.sorted < self.steps.len() {
+            return Err(self);
+        }
+        let StepSorting { steps, uids, .. } = self;
+        Ok(KeptSteps { steps, uids })
+    }
+}
+
 /// Returns the UIDs of steps, in order.
 ///
 /// Errors: if memory runs out.
@@ -91,10 +165,24 @@ fn uids_of<A: Allocator + Copy>(
     ensures { IfOk result (λ uids. (uid : List ℕ) → has_uid uids uid ≡ is_among uid steps.now) }
 {
     let mut uids = BTreeSet::new(alloc);
-    for step in steps {
-        put_uid(alloc, &mut uids, step.as_bytes())?;
-    }
+    put_uids(alloc, &mut uids, steps)?;
     Ok(uids)
+}
+
+/// Inserts the UIDs of steps that are not there yet.
+///
+/// Errors: if memory runs out.
+fn put_uids<A: Allocator + Copy>(
+    alloc: A,
+    uids: &mut BTreeSet<Vec<u8, A>, A>,
+    steps: &[StepUid],
+) -> Result<(), AllocError>
+    ensures { OnOk result ((uid : List ℕ) → has_uid uids.new uid ≡ (is_among uid steps.now || has_uid uids.old uid)) }
+{
+    for step in steps {
+        put_uid(alloc, uids, step.as_bytes())?;
+    }
+    Ok(())
 }
 
 /// Inserts a UID if it is not there yet.

@@ -66,10 +66,10 @@ no_entries [] e = refl
 no_entries (x ∷ xs) e = absurd (omega arith)
 
 pub carried_none : (s : Settings) (content : List (Record Global)) (whole : ManagerView Global) (steps : List (List ℕ)) (kept : List (Entry Global)) (drafts : List (Record Global))
-    → steps ≡ steps_needed whole.settings (past whole.history) → kept ≡ [] → drafts ≡ [] → IsSurveyed s content whole → AreCarried s content whole steps kept 0 0 drafts
+    → steps ≡ steps_needed s (past whole.history) → kept ≡ [] → drafts ≡ [] → IsSurveyed s content whole → AreCarried s content whole steps kept 0 0 drafts
 carried_none s content whole steps kept drafts needed none drawn i = record {
   surveyed = i;
-  needed = needed ∙ ap (λ (x : Settings). steps_needed x (past whole.history)) i.settings;
+  needed = needed;
   within = omega arith;
   keeps = λ log o.
       let empty : log ≡ [] = no_entries log (of_many s (take 0 content) log o) in

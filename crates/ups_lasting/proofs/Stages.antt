@@ -7,7 +7,7 @@ use Rattle.ups_life.specs.Settings.{Settings}
 use Rattle.ups_journal.specs.declared.record.Record.{Record}
 use Rattle.ups_manager.specs.View.{ManagerView}
 use Rattle.ups_lasting.specs.declared.stage.Stage.{Stage}
-use Rattle.ups_lasting.specs.declared.stage.Stage.TheVariants.{Resting, Clearing, Surveying, Carrying, Finishing, Following}
+use Rattle.ups_lasting.specs.declared.stage.Stage.TheVariants.{Resting, Clearing, Surveying, Sorting as Sort, Carrying, Finishing, Following}
 use Rattle.ups_lasting.specs.Stages.{AreRecordsOf, IsSurveyed, AreCarried, AreFinished, AreFollowed, GoesOnDrafted, Agrees}
 
 module _ (s : Settings) (content more : List (Record Global)) where
@@ -58,6 +58,7 @@ pub agrees_on : (s : Settings) (stage : Stage) (content more drafts : List (Reco
 agrees_on s Resting content more drafts a = tt
 agrees_on s Clearing content more drafts a = tt
 agrees_on s (Surveying whole) content more drafts a = (surveyed_more s content more whole a.0, a.1)
+agrees_on s (Sort n) content more drafts a = ((surveyed_more s content more _ a.0.0, a.0.1), a.1)
 agrees_on s (Carrying c) content more drafts a = (carried_more s content more _ _ _ _ _ _ a.0, a.1)
 agrees_on s (Finishing f) content more drafts a = (finished_more s content more _ _ _ _ _ a.0, a.1)
 agrees_on s (Following f) content more drafts a = (followed_more s content more _ _ _ _ a.0, a.1)

@@ -17,11 +17,12 @@ use Rattle.ups_compact.specs.Shifts.{less_by}
 use Rattle.ups_compact.specs.declared.shifts.Shift.{Shift}
 use Rattle.ups_restore.specs.Lessening.{lessened}
 use Rattle.ups_lasting.specs.Standing.{firsts, Stand}
+use Rattle.ups_lasting.specs.declared.stage.Sorting.{Sorting}
 use Rattle.ups_lasting.specs.declared.stage.Carriage.{Carriage}
 use Rattle.ups_lasting.specs.declared.stage.Finish.{Finish}
 use Rattle.ups_lasting.specs.declared.stage.Follow.{Follow}
 use Rattle.ups_lasting.specs.declared.stage.Stage.{Stage}
-use Rattle.ups_lasting.specs.declared.stage.Stage.TheVariants.{Resting, Clearing, Surveying, Carrying, Finishing, Following}
+use Rattle.ups_lasting.specs.declared.stage.Stage.TheVariants.{Resting, Clearing, Surveying, Sorting as Sort, Carrying, Finishing, Following}
 
 -- the records are those of a legal history
 pub record AreRecordsOf (s : Settings) (records : List (Record Global)) (by : List (Entry Global)) : Type 0 where
@@ -44,6 +45,10 @@ pub record IsSurveyed (s : Settings) (content : List (Record Global)) (whole : M
   pub settings : whole.settings ≡ s
   pub within : length whole.history ≤ length content
   pub all : (log : List (Entry Global)) → AreRecordsOf s (take (length whole.history) content) log → whole.history ≡ log
+
+-- the manager has entered the first records of the content, and these steps are needed of them
+abbrev pub IsSorting : Settings → List (Record Global) → Sorting → Type 0
+IsSorting s content n = IsSurveyed s content n.whole × (n.steps ≡ steps_needed s (past n.whole.history))
 
 -- of those that were read once more, a second manager has those that are kept, and the first of these are drafted
 pub record AreCarried (s : Settings) (content : List (Record Global)) (whole : ManagerView Global) (steps : List (List ℕ)) (kept : List (Entry Global)) (read drafted : ℕ) (drafts : List (Record Global)) : Type 0 where
@@ -91,6 +96,7 @@ abbrev pub Agrees : Settings → Stage → List (Record Global) → List (Record
 Agrees s Resting content drafts = Unit {0}
 Agrees s Clearing content drafts = Unit {0}
 Agrees s (Surveying whole) content drafts = IsSurveyed s content whole × (drafts ≡ [])
+Agrees s (Sort n) content drafts = IsSorting s content n × (drafts ≡ [])
 Agrees s (Carrying c) content drafts = IsCarried s content c × (drafts ≡ firsts c.drafts.items)
 Agrees s (Finishing f) content drafts = IsFinished s content f × (drafts ≡ firsts f.drafts.items)
 Agrees s (Following f) content drafts = IsFollowed s content f × (drafts ≡ firsts f.drafts.items)
@@ -100,6 +106,7 @@ abbrev pub coming : Stage → Option (List Shift)
 coming Resting = None
 coming Clearing = None
 coming (Surveying whole) = None
+coming (Sort n) = None
 coming (Carrying c) = None
 coming (Finishing f) = None
 coming (Following f) = Some f.shifts

@@ -9,33 +9,63 @@ ghost use Rattle.ups_journal.specs.declared.record.Record.{Record};
 ghost use Rattle.ups_journal.specs.Columns.{recorded};
 ghost use Rattle.ups_journal.specs.Writable.{IsWritableEntry};
 ghost use Rattle.ups_service.specs.Law.{is_legal};
-ghost use Rattle.ups_compact.specs.Compacting.{left_for};
+ghost use Rattle.ups_compact.specs.Compacting.{left_for, steps_needed};
 ghost use Rattle.ups_lasting.specs.Slices.{Stays};
-ghost use Rattle.ups_lasting.specs.Stages.{IsSurveyed, IsCarried};
+ghost use Rattle.ups_lasting.specs.Stages.{IsSurveyed, IsSorting, IsCarried};
 ghost use Rattle.ups_lasting.specs.Standing.{firsts};
 
 use crate::draft_ledger::DraftLedger;
 use crate::drafting::draft_on;
-use crate::stage::{Carriage, SLICE};
+use crate::stage::{Carriage, SLICE, SORTED, Sorting};
 use crate::surveying::emptied;
 use http_server::Log;
 use std::alloc::Global;
-use ups_compact::KeptSteps;
+use ups_compact::{KeptSteps, StepSorting};
 use ups_journal::Record;
 use ups_ledger::LedgerFault;
 use ups_manager::Manager;
-use ups_restore::{carry_record, steps_needed};
+use ups_restore::{carry_record, list_needed};
 
-/// Returns the beginning of the second reading: no record was read once more.
+/// Returns the steps of which a compaction of the records in a manager loses nothing, none of them in order.
 ///
 /// Errors: Full.
-pub(crate) fn begin_carriage(alloc: Global, whole: Manager<Global>) -> Result<Carriage, LedgerFault>
-    ensures carried { IfOk result (λ c. (s : Settings) → (content : List (Record Global)) → IsSurveyed s content whole → IsCarried s content c) }
-    ensures drafts { IfOk result (λ c. firsts c.drafts.items ≡ []) }
+pub(crate) fn begin_sorting(alloc: Global, whole: Manager<Global>) -> Result<Sorting, LedgerFault>
+    ensures sorting { IfOk result (λ n. (s : Settings) → (content : List (Record Global)) → IsSurveyed s content whole → IsSorting s content n) }
 {
-    let Ok(steps) = steps_needed(alloc, &whole) else {
+    let Ok(steps) = list_needed(&whole) else {
         return Err(LedgerFault::Full);
     };
+    Ok(Sorting {
+        whole,
+        steps: StepSorting::new(alloc, steps),
+    })
+}
+
+/// Puts further steps in order.
+///
+/// Errors: Full.
+pub(crate) fn sort_on(alloc: Global, n: Sorting) -> Result<Sorting, LedgerFault>
+    ensures sorting { IfOk result (λ next. (s : Settings) → (content : List (Record Global)) → IsSorting s content n → IsSorting s content next) }
+{
+    let Sorting { whole, steps } = n;
+    match steps.sort_on(alloc, SORTED) {
+        Ok(steps) => Ok(Sorting { whole, steps }),
+        Err(_) => Err(LedgerFault::Full),
+    }
+}
+
+/// Returns the beginning of the second reading: no record was read once more. `steps` are the steps needed of the records
+/// in a manager.
+///
+/// Errors: Full.
+pub(crate) fn begin_carriage(
+    alloc: Global,
+    whole: Manager<Global>,
+    steps: KeptSteps<Global>,
+) -> Result<Carriage, LedgerFault>
+    ensures carried { IfOk result (λ c. (s : Settings) → (content : List (Record Global)) → IsSurveyed s content whole → steps ≡ steps_needed s (past whole.history) → IsCarried s content c) }
+    ensures drafts { IfOk result (λ c. firsts c.drafts.items ≡ []) }
+{
     let fresh = emptied(alloc, &whole)?;
     Ok(Carriage {
         whole,
@@ -67,6 +97,24 @@ fn carry_all(
     Ok(())
 }
 
+/// Enters such records as `carry_all` does, and lets entries before the one at index `drafted` leave memory.
+///
+/// Errors: Full if one is not entered.
+fn carry_part(
+    alloc: Global,
+    steps: &KeptSteps<Global>,
+    fresh: &mut Manager<Global>,
+    records: &[Record<Global>],
+    drafted: usize,
+) -> Result<(), LedgerFault>
+    ensures carried { OnOk result ((front es : List (Entry Global)) → All (λ e. IsWritableEntry e) es → map recorded es ≡ records.now → is_legal fresh.old.settings (front ++ es) → past fresh.old.history ≡ left_for fresh.old.settings steps.now (past front) → past fresh.new.history ≡ left_for fresh.old.settings steps.now (past (front ++ es))) }
+    ensures settings { fresh.new.settings ≡ fresh.old.settings }
+{
+    carry_all(alloc, steps, fresh, records)?;
+    fresh.let_go(drafted);
+    Ok(())
+}
+
 /// Reads the next records once more, at most `SLICE`, and enters those that are kept.
 ///
 /// Errors: those of the ledger; Full if one is not entered.
@@ -81,7 +129,7 @@ fn carry<D: DraftLedger>(alloc: Global, ledger: &mut D, c: &mut Carriage) -> Res
     let Some(next) = c.read.checked_add(records.len()) else {
         return Err(LedgerFault::Full);
     };
-    carry_all(alloc, &c.steps, &mut c.fresh, &records)?;
+    carry_part(alloc, &c.steps, &mut c.fresh, &records, c.drafted)?;
     c.read = next;
     Ok(())
 }

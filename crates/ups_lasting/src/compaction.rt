@@ -18,7 +18,7 @@ use std::alloc::Global;
 use std::mem::replace;
 use ups_compact::Shifts;
 use ups_journal::Record;
-use ups_ledger::LedgerFault;
+use ups_ledger::{Disposer, LedgerFault};
 use ups_manager::Manager;
 
 /// What a slice of a compaction has done.
@@ -144,11 +144,12 @@ impl Compaction {
     /// Does a slice of the compaction.
     ///
     /// Errors: those of the ledger; Full.
-    fn turn<D: DraftLedger>(
+    fn turn<D: DraftLedger, B: Disposer>(
         &mut self,
         alloc: Global,
         ledger: &mut D,
         moment: u64,
+        disposer: &B,
     ) -> Result<Tended, LedgerFault>
         requires moment { IsMoment moment }
         requires agrees { D.is_sound ledger.old → IsAgreed self.old.empty.settings self.old.stage (D.kept ledger.old) (D.drafts ledger.old) }
@@ -158,7 +159,7 @@ impl Compaction {
         match replace(&mut self.stage, Stage::Resting) {
             Stage::Resting => Ok(Tended::Resting),
             Stage::Following(f) => self.follow(alloc, ledger, f),
-            stage => match move_on(alloc, ledger, &self.empty, stage, moment) {
+            stage => match move_on(alloc, ledger, &self.empty, stage, moment, disposer) {
                 Ok(next) => {
                     self.stage = next;
                     Ok(Tended::Going)
@@ -169,18 +170,20 @@ impl Compaction {
     }
 
     /// Does a slice of the compaction, if one is under way: at most 64 records are read, entered, drafted or deleted, with
-    /// one commit at most. A watcher's acknowledgements in the new records are made at `moment`. The compaction goes on at
-    /// the next call, whatever was appended in between.
+    /// one commit at most. A watcher's acknowledgements in the new records are made at `moment`. Its managers go to
+    /// `disposer` as soon as they are no longer needed. The compaction goes on at the next call, whatever was appended in
+    /// between.
     ///
     /// # Errors
     ///
     /// Those of the ledger; Full also if memory runs out, or if the records are not those of a history that is legal with
     /// these settings. The compaction is then given up, and the records stay.
-    pub fn tend<D: DraftLedger>(
+    pub fn tend<D: DraftLedger, B: Disposer>(
         &mut self,
         alloc: Global,
         ledger: &mut D,
         moment: u64,
+        disposer: &B,
     ) -> Result<Tended, LedgerFault>
         requires moment { IsMoment moment }
         requires agrees { D.is_sound ledger.old → IsAgreed self.old.empty.settings self.old.stage (D.kept ledger.old) (D.drafts ledger.old) }
@@ -195,6 +198,6 @@ impl Compaction {
         ensures unsound { IfDoubtful result (¬ D.is_sound ledger.new) }
         ensures doubt { IfDoubtful result (D.is_first ledger.new → (rs : List (Record Global)) → D.recovers ledger.new rs → D.recovers ledger.old rs ⊎ (D.is_sound ledger.old × ((rs ≡ D.kept ledger.old) ⊎ StandsBySome self.old.empty.settings (D.kept ledger.old) rs))) }
     {
-        self.turn(alloc, ledger, moment)
+        self.turn(alloc, ledger, moment, disposer)
     }
 }

@@ -12,7 +12,7 @@ use ups_compact::Shifts;
 pub struct Successor {
     /// By how much the numbers of events are less in them than in the log.
     pub(crate) shifts: Shifts<Global>,
-    /// They, for contracts alone.
+    /// The records, for contracts alone.
     pub(crate) records: GhostRecords,
 }
 

@@ -12,20 +12,25 @@ use crate::draft_ledger::DraftLedger;
 use crate::drafting::draft_on;
 use crate::stage::{Carriage, Finish, Follow};
 use std::alloc::Global;
-use ups_ledger::LedgerFault;
+use ups_ledger::{Disposer, LedgerFault, Waste};
 use ups_restore::{acknowledge, shifts_between};
 
 /// Enters the acknowledgements behind what is kept, and returns the compacted history.
 ///
 /// Errors: Full.
-pub(crate) fn finish(alloc: Global, c: Carriage, moment: u64) -> Result<Finish, LedgerFault>
+pub(crate) fn finish<B: Disposer>(
+    alloc: Global,
+    c: Carriage,
+    moment: u64,
+    disposer: &B,
+) -> Result<Finish, LedgerFault>
     requires { IsMoment moment }
     ensures finished { IfOk result (λ f. (s : Settings) → (content : List (Record Global)) → IsCarried s content c → length c.whole.history ≤ c.read → IsFinished s content f) }
     ensures drafts { IfOk result (λ f. firsts f.drafts.items ≡ firsts c.drafts.items) }
 {
     let Carriage {
         whole,
-        steps: _,
+        steps,
         mut fresh,
         read,
         drafted,
@@ -37,6 +42,10 @@ pub(crate) fn finish(alloc: Global, c: Carriage, moment: u64) -> Result<Finish, 
     let Ok(shifts) = shifts_between(alloc, &whole, &fresh) else {
         return Err(LedgerFault::Full);
     };
+    disposer.dispose(Waste {
+        manager: whole,
+        steps: Some(steps),
+    });
     Ok(Finish {
         fresh,
         shifts,
@@ -63,17 +72,21 @@ pub(crate) fn finish_on<D: DraftLedger>(
 }
 
 /// Returns the beginning of what follows, once all of a compacted history is drafted.
-pub(crate) fn begin_follow(f: Finish) -> Follow
+pub(crate) fn begin_follow<B: Disposer>(f: Finish, disposer: &B) -> Follow
     ensures followed { (s : Settings) → (content : List (Record Global)) → IsFinished s content f → length f.fresh.history ≤ f.drafted → IsFollowed s content result }
     ensures drafts { firsts result.drafts.items ≡ firsts f.drafts.items }
 {
     let Finish {
-        fresh: _,
+        fresh,
         shifts,
         from,
         drafted: _,
         drafts,
     } = f;
+    disposer.dispose(Waste {
+        manager: fresh,
+        steps: None,
+    });
     Follow {
         shifts,
         from,

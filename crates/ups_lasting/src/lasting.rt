@@ -22,7 +22,7 @@ use std::alloc::Global;
 use std::mem::replace;
 use ups_compact::Shifts;
 use ups_journal::Record;
-use ups_ledger::{Ledger, LedgerFault, Tending};
+use ups_ledger::{Disposer, Ledger, LedgerFault, Tending};
 use ups_life::MAX_MOMENT;
 use ups_manager::Manager;
 
@@ -189,7 +189,12 @@ impl<D: DraftLedger> LastingLedger<D> {
     /// Does a slice of the compaction. `total` are the shifts once the drafts have taken the place of the records.
     ///
     /// Errors: those of the ledger; Full.
-    fn turn(&mut self, moment: u64, total: Shifts<Global>) -> Result<Tending, LedgerFault>
+    fn turn<B: Disposer>(
+        &mut self,
+        moment: u64,
+        total: Shifts<Global>,
+        disposer: &B,
+    ) -> Result<Tending, LedgerFault>
         requires moment { IsMoment moment }
         requires sure { is_sure self.old.doubt ≡ true }
         requires up { D.is_first self.old.ledger → (rs : List (Record Global)) → D.recovers self.old.ledger rs → D.is_sound self.old.ledger }
@@ -212,7 +217,7 @@ impl<D: DraftLedger> LastingLedger<D> {
             ..
         } = self;
         let before = ledger.len();
-        match compaction.tend(*alloc, ledger, moment)? {
+        match compaction.tend(*alloc, ledger, moment, disposer)? {
             Tended::Resting => Ok(Tending::Resting),
             Tended::Going => Ok(Tending::Going),
             Tended::Exchanged { records } => {
@@ -263,14 +268,19 @@ impl<D: DraftLedger> Ledger for LastingLedger<D> {
         }
     }
 
-    fn tend(&mut self, moment: u64, at: u64) -> Result<Tending, LedgerFault> {
+    fn tend<B: Disposer>(
+        &mut self,
+        moment: u64,
+        at: u64,
+        disposer: &B,
+    ) -> Result<Tending, LedgerFault> {
         if !self.doubt.is_nothing() || !self.ledger.is_up() {
             return Ok(Tending::Resting);
         }
         let is_due = self.is_due(at);
         self.compaction.begin_if(is_due);
         match self.compaction.coming_with(self.alloc, &self.shifts) {
-            Ok(total) => self.turn(dated(moment), total),
+            Ok(total) => self.turn(dated(moment), total, disposer),
             Err(fault) => {
                 self.compaction.give_up();
                 Err(fault)

@@ -1,17 +1,19 @@
 //! From one stage of a compaction to the next.
 
-ghost use Rattle.std.specs.Prelude.{◌≡◌, IfOk};
+ghost use Rattle.std.specs.Prelude.{◌≡◌, List, IfOk};
+ghost use Rattle.std.specs.Global.{Global};
+ghost use Rattle.ups_journal.specs.declared.record.Record.{Record};
 ghost use Rattle.ups_life.specs.Settings.{Settings, IsMoment};
 ghost use Rattle.ups_lasting.specs.Slices.{Stays};
 ghost use Rattle.ups_lasting.specs.Stages.{Agrees};
 
-use crate::carrying::{begin_carriage, carry_on};
+use crate::carrying::{begin_carriage, begin_sorting, carry_on, sort_on};
 use crate::draft_ledger::DraftLedger;
 use crate::finishing::{begin_follow, finish, finish_on};
-use crate::stage::{Carriage, Finish, SLICE, Stage};
+use crate::stage::{Carriage, Finish, SLICE, Sorting, Stage};
 use crate::surveying::{emptied, survey};
 use std::alloc::Global;
-use ups_ledger::LedgerFault;
+use ups_ledger::{Disposer, LedgerFault};
 use ups_manager::Manager;
 
 /// Deletes drafts of an earlier compaction. Returns the stage after that.
@@ -47,17 +49,31 @@ fn survey_next<D: DraftLedger>(
     if !survey(alloc, ledger, &mut whole)? {
         return Ok(Stage::Surveying(whole));
     }
-    Ok(Stage::Carrying(begin_carriage(alloc, whole)?))
+    Ok(Stage::Sorting(begin_sorting(alloc, whole)?))
+}
+
+/// Puts further steps in order. Returns the stage after that.
+///
+/// Errors: Full.
+fn sort_next(alloc: Global, n: Sorting) -> Result<Stage, LedgerFault>
+    ensures agrees { IfOk result (λ next. (s : Settings) → (content drafts : List (Record Global)) → Agrees s (Stage.Sorting n) content drafts → Agrees s next content drafts) }
+{
+    let Sorting { whole, steps } = sort_on(alloc, n)?;
+    match steps.finish() {
+        Ok(steps) => Ok(Stage::Carrying(begin_carriage(alloc, whole, steps)?)),
+        Err(steps) => Ok(Stage::Sorting(Sorting { whole, steps })),
+    }
 }
 
 /// Reads further records once more. Returns the stage after that.
 ///
 /// Errors: those of the ledger; Full.
-fn carry_next<D: DraftLedger>(
+fn carry_next<D: DraftLedger, B: Disposer>(
     alloc: Global,
     ledger: &mut D,
     c: Carriage,
     moment: u64,
+    disposer: &B,
 ) -> Result<Stage, LedgerFault>
     requires { IsMoment moment }
     ensures agrees { IfOk result (λ next. D.is_sound ledger.new → (s : Settings) → Agrees s (Stage.Carrying c) (D.kept ledger.old) (D.drafts ledger.old) → Agrees s next (D.kept ledger.old) (D.drafts ledger.new)) }
@@ -67,16 +83,17 @@ fn carry_next<D: DraftLedger>(
     if !carry_on(alloc, ledger, &mut c)? {
         return Ok(Stage::Carrying(c));
     }
-    Ok(Stage::Finishing(finish(alloc, c, moment)?))
+    Ok(Stage::Finishing(finish(alloc, c, moment, disposer)?))
 }
 
 /// Drafts further entries of a compacted history. Returns the stage after that.
 ///
 /// Errors: those of the ledger; Full.
-fn finish_next<D: DraftLedger>(
+fn finish_next<D: DraftLedger, B: Disposer>(
     alloc: Global,
     ledger: &mut D,
     f: Finish,
+    disposer: &B,
 ) -> Result<Stage, LedgerFault>
     ensures agrees { IfOk result (λ next. D.is_sound ledger.new → (s : Settings) → Agrees s (Stage.Finishing f) (D.kept ledger.old) (D.drafts ledger.old) → Agrees s next (D.kept ledger.old) (D.drafts ledger.new)) }
     ensures stays { Stays D.DraftLedger ledger.old ledger.new }
@@ -85,18 +102,19 @@ fn finish_next<D: DraftLedger>(
     if !finish_on(alloc, ledger, &mut f)? {
         return Ok(Stage::Finishing(f));
     }
-    Ok(Stage::Following(begin_follow(f)))
+    Ok(Stage::Following(begin_follow(f, disposer)))
 }
 
 /// Does a slice of a compaction up to the end of a compacted history. Returns the stage after that.
 ///
 /// Errors: those of the ledger; Full.
-pub(crate) fn move_on<D: DraftLedger>(
+pub(crate) fn move_on<D: DraftLedger, B: Disposer>(
     alloc: Global,
     ledger: &mut D,
     empty: &Manager<Global>,
     stage: Stage,
     moment: u64,
+    disposer: &B,
 ) -> Result<Stage, LedgerFault>
     requires { IsMoment moment }
     ensures agrees { IfOk result (λ next. D.is_sound ledger.new → Agrees empty.now.settings stage (D.kept ledger.old) (D.drafts ledger.old) → Agrees empty.now.settings next (D.kept ledger.old) (D.drafts ledger.new)) }
@@ -105,8 +123,9 @@ pub(crate) fn move_on<D: DraftLedger>(
     match stage {
         Stage::Clearing => clear(alloc, ledger, empty),
         Stage::Surveying(whole) => survey_next(alloc, ledger, whole),
-        Stage::Carrying(c) => carry_next(alloc, ledger, c, moment),
-        Stage::Finishing(f) => finish_next(alloc, ledger, f),
+        Stage::Sorting(n) => sort_next(alloc, n),
+        Stage::Carrying(c) => carry_next(alloc, ledger, c, moment, disposer),
+        Stage::Finishing(f) => finish_next(alloc, ledger, f, disposer),
         stage => Ok(stage),
     }
 }

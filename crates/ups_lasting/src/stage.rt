@@ -4,12 +4,15 @@ ghost use Rattle.std.specs.Prelude.{◌≡◌};
 
 use http_server::Log;
 use std::alloc::Global;
-use ups_compact::{KeptSteps, Shifts};
+use ups_compact::{KeptSteps, Shifts, StepSorting};
 use ups_journal::Record;
 use ups_manager::Manager;
 
 /// The most records that are read, entered, drafted or deleted in a slice.
 pub(crate) const SLICE: usize = 64;
+
+/// The most UIDs that are put in order in a slice.
+pub(crate) const SORTED: usize = 512;
 
 /// The stage of a compaction.
 #[derive(Drop)]
@@ -20,12 +23,23 @@ pub enum Stage {
     Clearing,
     /// A manager enters the records from the first on.
     Surveying(Manager<Global>),
+    /// The steps of which the compaction loses nothing are put in order.
+    Sorting(Sorting),
     /// The records are read once more, and those that are kept are entered into a second manager and drafted.
     Carrying(Carriage),
     /// The acknowledgements are entered. The rest of the second manager is drafted.
     Finishing(Finish),
     /// What was appended meanwhile is drafted.
     Following(Follow),
+}
+
+/// The steps that are put in order.
+#[derive(Drop)]
+pub struct Sorting {
+    /// The manager that has entered the records.
+    pub(crate) whole: Manager<Global>,
+    /// The steps of which the compaction loses nothing.
+    pub(crate) steps: StepSorting<Global>,
 }
 
 /// The records that are read once more.

@@ -83,6 +83,24 @@ fn survey_all(
     Ok(())
 }
 
+/// Enters the entries of records as `survey_all` does, and lets entries leave memory that nothing is pending of.
+///
+/// Errors: Full if one is not entered.
+fn survey_part(
+    alloc: Global,
+    whole: &mut Manager<Global>,
+    records: &[Record<Global>],
+) -> Result<(), LedgerFault>
+    ensures entered { OnOk result ((es : List (Entry Global)) → All (λ e. IsWritableEntry e) es → map recorded es ≡ records.now → whole.new.history ≡ whole.old.history ++ es) }
+    ensures more { OnOk result (length whole.new.history ≡ length whole.old.history + length records.now) }
+    ensures settings { whole.new.settings ≡ whole.old.settings }
+{
+    survey_all(alloc, whole, records)?;
+    let entries = whole.entries();
+    whole.let_go(entries);
+    Ok(())
+}
+
 /// Reads the next records of a ledger, at most `SLICE`, and enters them into the manager that has those before them. Returns
 /// whether none was left.
 ///
@@ -97,6 +115,6 @@ pub(crate) fn survey<D: DraftLedger>(
     ensures stays { Stays D.DraftLedger ledger.old ledger.new }
 {
     let records = ledger.read(whole.entries() as u64, SLICE)?;
-    survey_all(alloc, whole, &records)?;
+    survey_part(alloc, whole, &records)?;
     Ok(records.is_empty())
 }

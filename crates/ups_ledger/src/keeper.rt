@@ -4,6 +4,7 @@ ghost use Rattle.std.specs.Prelude.{◌≡◌};
 ghost use Rattle.ups_ledger.specs.Backed.{HadAtLeast};
 
 use crate::committing::commit;
+use crate::disposing::Disposer;
 use crate::fault::{CommitFault, LedgerFault};
 use crate::ledger::Ledger;
 use crate::tending::Tending;
@@ -92,12 +93,17 @@ impl<L: Ledger> Keeper<L> {
     /// # Errors
     ///
     /// Those of [`Ledger::tend`].
-    pub fn tend(&mut self, moment: u64, at: u64) -> Result<Tending, LedgerFault>
+    pub fn tend<B: Disposer>(
+        &mut self,
+        moment: u64,
+        at: u64,
+        disposer: &B,
+    ) -> Result<Tending, LedgerFault>
         ensures kept { (history : List (Entry Global)) → IsKept L.Ledger self.old history → IsKept L.Ledger self.new history }
         ensures safe { (history : List (Entry Global)) → IsKept L.Ledger self.old history → IsSafe L.Ledger self.old history → IsSafe L.Ledger self.new history }
         ensures more { self.old.committed ≤ self.new.committed }
         ensures sound { L.is_sound self.new.ledger → L.is_sound self.old.ledger }
     {
-        self.ledger.tend(moment, at)
+        self.ledger.tend(moment, at, disposer)
     }
 }

@@ -1,5 +1,6 @@
 //! Permanent storage of records.
 
+use crate::disposing::Disposer;
 use crate::fault::LedgerFault;
 use crate::tending::Tending;
 use std::alloc::Global;
@@ -65,12 +66,19 @@ pub trait Ledger: Drop {
     /// Does a slice of a compaction of what is stored, and begins one if at least `at` records, and no fewer than the last
     /// compaction left, were appended since. What is stored then stands for the records, which to the outside stay as they
     /// are. Call it between appends, again soon while a compaction is under way. `moment` is the time in seconds since
-    /// 1970-01-01 UTC. A ledger that is never compacted does nothing.
+    /// 1970-01-01 UTC. What the compaction no longer needs and takes long to drop goes to `disposer`. A ledger that is
+    /// never compacted does nothing.
     ///
     /// # Errors
     ///
-    /// Full, Write, Shut: the compaction is given up, and the next one begins anew. Nothing is lost.
-    fn tend(&mut self, moment: u64, at: u64) -> Result<Tending, LedgerFault>
+    /// Full, Write, Shut: nothing is lost. The compaction is given up, unless nobody knows whether the new records are
+    /// stored already, which the next append finds out. The next one begins anew.
+    fn tend<B: Disposer>(
+        &mut self,
+        moment: u64,
+        at: u64,
+        disposer: &B,
+    ) -> Result<Tending, LedgerFault>
         ensures same { is_sound self.new → kept self.new ≡ kept self.old }
         ensures sound { is_sound self.new → is_sound self.old }
         ensures told { told self.new ≡ told self.old }

@@ -4,6 +4,7 @@
 
 mod commits;
 mod committing;
+mod disposing;
 mod due;
 mod fault;
 mod group;
@@ -17,6 +18,7 @@ mod withheld;
 
 pub use commits::{AreCommitted, Commits, Committed, Keeping};
 pub use committing::commit;
+pub use disposing::{Disposer, DropHere, Waste};
 pub use due::{CommitDue, Noted};
 pub use fault::{CommitFault, LedgerFault};
 pub use group::Group;

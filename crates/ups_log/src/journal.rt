@@ -103,11 +103,6 @@ pub fn tell_all_taken<R: Log>(rt: &R, workers: u32, waiting: Option<u64>) {
     }
 }
 
-/// Warns that a store has `entries` requests, each of which a start reads.
-pub fn tell_growth<R: Log>(rt: &R, entries: u64) {
-    warn!(rt; target: "upsd", "serve: the store has {entries} requests, and a start reads each: restart with --compact");
-}
-
 /// Logs that new entries can't be committed to the store, and why: no answer that rests on them is sent. If the store
 /// is lost, only a restart helps.
 pub fn tell_uncommitted<R: Log>(rt: &R, fault: CommitFault) {
@@ -124,6 +119,17 @@ pub fn tell_uncommitted<R: Log>(rt: &R, fault: CommitFault) {
 /// Logs that the store takes requests again.
 pub fn tell_recovered<R: Log>(rt: &R, committed: u64) {
     info!(rt; target: "upsd", "serve: the store takes requests again: {committed} are committed");
+}
+
+/// Logs that the store was compacted while it was in use, from `before` requests to `after`, and how long that took.
+pub fn tell_compacted<R: Log>(rt: &R, before: u64, after: u64, elapsed: Duration) {
+    let time = Time(elapsed);
+    info!(rt; target: "upsd", "store: compacted from {before} requests to {after}, in {time}");
+}
+
+/// Warns that the store could not be compacted while it was in use, and why. It goes on as it was.
+pub fn tell_uncompacted<R: Log>(rt: &R, fault: LedgerFault) {
+    warn!(rt; target: "upsd", "store: not compacted: {fault}");
 }
 
 /// Warns that `more` requests of a peer were refused beyond those that were logged.

@@ -1,7 +1,10 @@
 //! The committer: writes new entries to a ledger in the sweeper's thread, and releases the answers that wait for it.
+//! Between two commits it has a slice of a compaction done, if one is due.
 
-ghost use Rattle.std.specs.Prelude.{◌≡◌, ◌<◌, map, take, drop, IsTrue};
+ghost use Rattle.std.specs.Prelude.{◌≡◌, ◌<◌, List, map, take, drop, IsTrue};
+ghost use Rattle.std.specs.Global.{Global};
 ghost use Rattle.ups_journal.specs.Columns.{recorded};
+ghost use Rattle.ups_life.specs.declared.entry.Entry.{Entry};
 ghost use Rattle.ups_ledger.specs.Backed.{Backs};
 ghost use Rattle.ups_ledger.specs.Behind.{AreBehind};
 ghost use Rattle.ups_ledger.specs.Grouping.{most_in};
@@ -10,10 +13,11 @@ ghost use Rattle.ups_ledger.specs.Keeping.{KeeperGoesOn, HasWatched};
 use crate::monitor::{MINUTE, Reminder};
 use crate::roster::Roster;
 use crate::site::Site;
+use crate::tender::Tender;
 use log::Log;
 use std::alloc::Global;
 use std::sync::Wait;
-use std::thread;
+use std::thread::{self, Threads};
 use std::time::{Clock, Duration, Instant};
 use ups_ledger::{CommitFault, Commits, Group, Keeper, Keeping, Ledger, LedgerFault};
 use ups_log::{moment_of, tell_recovered, tell_uncommitted};
@@ -57,13 +61,15 @@ pub(crate) struct Committer {
     since: Option<Instant>,
     /// How many entries it commits at once.
     group: Group,
-    /// Whether something was committed since the ledger was last tidied up.
+    /// Whether something was committed, or compacted, since the ledger was last tidied up.
     is_untidy: bool,
     /// The number of entries that came with the last commit and while it was made, and how long it took.
     came: u64,
     took: Duration,
     /// Whether it has checked in this round for new entries that perhaps nobody waits for.
     has_looked: bool,
+    /// The compaction of the ledger.
+    tender: Tender,
 }
 
 impl Committer {
@@ -80,6 +86,7 @@ impl Committer {
             came: 0,
             took: Duration::ZERO,
             has_looked: false,
+            tender: Tender::new(),
         }
     }
 
@@ -91,6 +98,11 @@ impl Committer {
     /// Returns whether the ledger is lost, so that only a restart helps.
     pub(crate) fn is_lost(&self) -> bool {
         self.is_lost
+    }
+
+    // Returns whether the last try to commit failed, or a compaction is under way.
+    fn is_busy(&self) -> bool {
+        self.is_failing || self.tender.is_going()
     }
 
     // Logs that nothing can be committed, at once and then once a minute.
@@ -129,8 +141,10 @@ impl Committer {
         }
     }
 
-    // Returns how long to wait for further entries: at most until it may ring for what is committed.
+    // Returns how long to wait for further entries: at most until it may ring for what is committed, and until the next
+    // slice of a compaction.
     fn wait_of<R: Clock>(&self, rt: &R, committed: u64, left: Duration) -> Duration {
+        let left = self.tender.wait_of(left);
         if committed == self.rung {
             return left;
         }
@@ -244,9 +258,25 @@ impl Committer {
         self.commit(site, pass, keeper)
     }
 
-    /// Commits new entries as soon as somebody waits for them, until the next round after `begun`. Rings for the
-    /// deliverers when more is committed, but at most once in a tenth of a second. If a commit fails, it is tried again
-    /// in the next round.
+    /// Does a slice of a compaction of the ledger if one is under way or due, unless the last try to commit failed.
+    fn tend_to<L: Ledger, R: Threads + Clock + Log>(
+        &mut self,
+        rt: &R,
+        keeper: &mut Keeper<L>,
+        at: u64,
+    )
+        ensures goes_on { (history : List (Entry Global)) → KeeperGoesOn L.Ledger keeper.old history keeper.new history }
+    {
+        if self.is_failing {
+            return;
+        }
+        self.tender.tend(rt, keeper, at);
+        self.is_untidy = self.is_untidy || self.tender.is_going();
+    }
+
+    /// Commits new entries as soon as somebody waits for them, until the next round after `begun`, and has a slice of a
+    /// compaction done after each try. Rings for the deliverers when more is committed, but at most once in a tenth of a
+    /// second. If a commit fails, it is tried again in the next round.
     fn keep_until<M: SharedService<Global>, K: Keeping, L: Ledger, R>(
         &mut self,
         site: Site<'_, M, K, R>,
@@ -256,7 +286,7 @@ impl Committer {
         begun: Instant,
     )
     where
-        R: Wait + Clock + Log,
+        R: Threads + Wait + Clock + Log,
         requires here { pass.old.table ≡ site.desk.now.table }
         requires backs { Backs L.Ledger K.had }
         ensures stays { pass.new.table ≡ pass.old.table }
@@ -266,8 +296,8 @@ impl Committer {
         let Site {
             rt,
             desk,
+            options,
             commits,
-            ..
         } = site;
         for _ in rt.forever() {
             let left = left_of_round(rt, begun);
@@ -278,6 +308,7 @@ impl Committer {
             let wait = self.wait_of(rt, committed, left);
             let is_more = self.await_more(rt, desk, commits, committed, wait);
             let is_done = self.commit_if(is_more, site, pass, keeper);
+            self.tend_to(rt, keeper, options.limits.compact_at);
             rest_unless(rt, is_done, begun);
             self.ring(rt, roster, keeper.count());
         }
@@ -293,7 +324,7 @@ impl Committer {
         keeper: &mut Keeper<L>,
     )
     where
-        R: Wait + Clock + Log,
+        R: Threads + Wait + Clock + Log,
         requires here { pass.old.table ≡ site.desk.now.table }
         requires backs { Backs L.Ledger K.had }
         ensures stays { pass.new.table ≡ pass.old.table }
@@ -310,7 +341,7 @@ impl Committer {
     }
 
     /// Waits for the next round and commits new entries meanwhile. Tidies up the ledger if none came in this round but
-    /// some did before. If the clock fails, commits only at the end.
+    /// some did before, and no compaction is under way. If the clock fails, commits only at the end.
     pub(crate) fn keep<M: SharedService<Global>, K: Keeping, L: Ledger, R>(
         &mut self,
         site: Site<'_, M, K, R>,
@@ -319,7 +350,7 @@ impl Committer {
         keeper: &mut Keeper<L>,
     )
     where
-        R: Wait + Clock + Log,
+        R: Threads + Wait + Clock + Log,
         requires here { pass.old.table ≡ site.desk.now.table }
         requires backs { Backs L.Ledger K.had }
         ensures stays { pass.new.table ≡ pass.old.table }
@@ -329,7 +360,7 @@ impl Committer {
         let committed = keeper.count();
         self.has_looked = false;
         self.keep_round(site, roster, pass, keeper);
-        if self.is_untidy && !self.is_failing && keeper.count() == committed {
+        if self.is_untidy && !self.is_busy() && keeper.count() == committed {
             keeper.tidy();
             self.is_untidy = false;
         }

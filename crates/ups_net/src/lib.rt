@@ -21,6 +21,7 @@ mod serving;
 mod site;
 mod supervision;
 mod sweeping;
+mod tender;
 mod workers;
 
 pub use clock::HostClock;

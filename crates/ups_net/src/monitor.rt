@@ -9,12 +9,9 @@ use log::Log;
 use std::sync::Wait;
 use std::time::Clock;
 use ups_ledger::Keeping;
-use ups_log::{moment_of, tell_growth};
+use ups_log::moment_of;
 use ups_peers::Watcher;
 use ups_transport::Network;
-
-/// The number of requests of a store after each of which its growth is logged.
-const GROWTH: u64 = 1_000_000;
 
 /// The number of seconds in a minute, and between two lines of numbers.
 pub(crate) const MINUTE: u64 = 60;
@@ -49,8 +46,6 @@ impl Reminder {
 /// What the sweeper has logged.
 #[derive(Clone, Copy)]
 pub(crate) struct Monitor {
-    /// How often the growth of the store was reached that is logged.
-    growth: u64,
     /// When the last minute of refused requests ended.
     minute: Reminder,
     /// When the numbers were last logged.
@@ -69,7 +64,6 @@ impl Monitor {
     pub(crate) fn new<R: Clock>(rt: &R) -> Monitor {
         let done = moment_of(rt);
         Monitor {
-            growth: 0,
             minute: Reminder {
                 done,
                 pause: MINUTE,
@@ -81,18 +75,8 @@ impl Monitor {
         }
     }
 
-    /// Warns if a store with `entries` requests has grown by another million.
-    fn look_at_store<R: Log>(&mut self, rt: &R, entries: u64) {
-        let reached = entries / GROWTH;
-        if reached > self.growth {
-            self.growth = reached;
-            tell_growth(rt, entries);
-        }
-    }
-
-    /// Checks a server whose history has `entries` entries, and logs what there is to log: that its store has grown, that
-    /// all workers are taken, what deliveries came to, how many requests were refused beyond those logged, and its numbers
-    /// every ten minutes.
+    /// Checks a server whose history has `entries` entries, and logs what there is to log: that all workers are
+    /// taken, what deliveries came to, how many requests were refused beyond those logged, and its numbers every ten minutes.
     pub(crate) fn look<K: Keeping, R: Wait + Clock + Log + Network>(
         &mut self,
         rt: &R,
@@ -101,9 +85,6 @@ impl Monitor {
         entries: u64,
     ) {
         let now = moment_of(rt);
-        if state.commits.kept().is_some() {
-            self.look_at_store(rt, entries);
-        }
         state.door.tell_taken(rt, options.limits.workers);
         tell_deliveries(rt, &state.roster, &options.watchers);
         if self.minute.is_due(now) {

@@ -122,7 +122,7 @@ fn sweep_begun<M: SharedService<Global>, K: Keeping, L: Ledger, R>(
     keeper: Option<Keeper<L>>,
 ) -> (Pass<M, Global>, Option<Keeper<L>>)
 where
-    R: Wait + Clock + Log + Network,
+    R: Threads + Wait + Clock + Log + Network,
     requires here { pass.table ≡ site.desk.now.table }
     requires backs { Backs L.Ledger K.had }
     ensures sweeps { MatchBool begun (Sweeps site.entry.options.now.config.ae (is_some keeper) site.entry.options.now.rounds pass result.0) (result.0 ≡ pass) }

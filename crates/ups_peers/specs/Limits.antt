@@ -24,3 +24,11 @@ timeout_seconds = 60
 -- the default: the seconds that a watcher may take for each answer and, unless it is quick, to open an association
 abbrev pub delivery_seconds : ℕ
 delivery_seconds = 5
+
+-- the greatest number of records appended to the store before it is compacted
+abbrev pub compact_at_limit : ℕ
+compact_at_limit = 1000000000
+
+-- the default for this number
+abbrev pub default_compact_at : ℕ
+default_compact_at = 50000

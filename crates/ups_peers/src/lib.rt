@@ -5,7 +5,7 @@ mod limits;
 mod watcher;
 
 pub use limits::{
-    DELIVERY_TIMEOUT, IDLE, MAX_WORKERS, ServerLimits, TIMEOUT, TURNS, WORKERS,
-    limits_are_as_defined,
+    COMPACT_AT, DELIVERY_TIMEOUT, IDLE, MAX_COMPACT_AT, MAX_WORKERS, ServerLimits, TIMEOUT, TURNS,
+    WORKERS, limits_are_as_defined,
 };
 pub use watcher::Watcher;

@@ -1,7 +1,7 @@
 //! The limits of a server for its peers, and their defaults.
 
 ghost use Rattle.std.specs.Prelude.{◌≡◌};
-ghost use Rattle.ups_peers.specs.Limits.{workers_limit, default_workers, turns_limit, idle_seconds, timeout_seconds, delivery_seconds};
+ghost use Rattle.ups_peers.specs.Limits.{workers_limit, default_workers, turns_limit, idle_seconds, timeout_seconds, delivery_seconds, compact_at_limit, default_compact_at};
 
 /// The maximum number of associations served at the same time: a desk has 1,024 passes, of which one sweeps and at
 /// least one delivers event reports.
@@ -24,8 +24,14 @@ pub const TIMEOUT: u32 = 60;
 /// The default number of seconds that a watcher may take at most to be connected to, and for each answer.
 pub const DELIVERY_TIMEOUT: u32 = 5;
 
-/// The limits of a server: the number of associations served at the same time, the number of PDUs of each, and the time
-/// to wait for each.
+/// The maximum number of records appended to the store before it is compacted.
+pub const MAX_COMPACT_AT: u64 = 1_000_000_000;
+
+/// The default number of records appended to the store before it is compacted.
+pub const COMPACT_AT: u64 = 50_000;
+
+/// The limits of a server: the number of associations served at the same time, the number of PDUs of each, the time to
+/// wait for each, and how far the store grows.
 #[derive(Clone, Copy)]
 pub struct ServerLimits {
     /// The number of associations served at the same time, each by a worker of its own.
@@ -42,6 +48,9 @@ pub struct ServerLimits {
     /// The number of seconds that a watcher may take at most to be connected to, and for each answer; 0 for ten seconds
     /// to be connected to and an hour for each answer, or ten seconds if it is neither away nor slow.
     pub delivery_timeout: u32,
+    /// The number of records appended to the store since it was last compacted at which it is compacted again, at least
+    /// as many as that left.
+    pub compact_at: u64,
 }
 
 /// The limits are those of the definitions.
@@ -52,4 +61,6 @@ pub fn limits_are_as_defined()
     ensures idle { IDLE ≡ idle_seconds }
     ensures timeout { TIMEOUT ≡ timeout_seconds }
     ensures delivery_timeout { DELIVERY_TIMEOUT ≡ delivery_seconds }
+    ensures most_compact_at { MAX_COMPACT_AT ≡ compact_at_limit }
+    ensures compact_at { COMPACT_AT ≡ default_compact_at }
 {}

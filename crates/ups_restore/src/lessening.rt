@@ -1,6 +1,6 @@
 //! The shifts between a history and its compaction, and the records that go on with it: their numbers of events are less.
 
-ghost use Rattle.std.specs.Prelude.{◌≡◌, ◌++◌, [], ◌∷◌, ℕ, List, All, map, take, drop, IfOk, IfErr, OnOk};
+ghost use Rattle.std.specs.Prelude.{◌≡◌, ◌++◌, [], ◌∷◌, ℕ, List, All, map, take, drop, IfSome, IfOk, IfErr, OnOk};
 ghost use Rattle.ups_life.specs.Steps.{past};
 ghost use Rattle.ups_journal.specs.Columns.{recorded};
 ghost use Rattle.ups_journal.specs.Writable.{IsWritableEntry};
@@ -162,14 +162,17 @@ fn part(entries: &[Entry<Global>], most: usize) -> &[Entry<Global>]
     &entries[..most]
 }
 
-/// Returns the entries from the index `from` on, at most `most`.
-fn part_from(entries: &[Entry<Global>], from: usize, most: usize) -> &[Entry<Global>]
-    ensures { result.now ≡ take most (drop from entries.now) }
+/// Returns the entries of a manager's history from the index `from` on, or None if some of them have left memory.
+fn history_from(manager: &Manager<Global>, from: usize) -> Option<&[Entry<Global>]>
+    ensures { IfSome result (λ s. s.now ≡ drop from manager.now.history) }
 {
-    if entries.len() <= from {
-        return &[];
+    let recent = manager.history();
+    let gone = manager.entries().saturating_sub(recent.len());
+    let at = from.checked_sub(gone)?;
+    if recent.len() <= at {
+        return Some(&[]);
     }
-    part(&entries[from..], most)
+    Some(&recent[at..])
 }
 
 /// Returns the records of entries, which then have records that can be read back.
@@ -206,9 +209,9 @@ pub fn records_from(
     ensures writable { IfOk result (λ v. All (λ e. IsWritableEntry e) (take most (drop from manager.now.history))) }
     ensures only { IfErr result IsNoRefusal }
 {
-    let Some(history) = manager.whole() else {
+    let Some(history) = history_from(manager, from) else {
         return Err(CompactFault::Recording(RecordingFault::Gone));
     };
-    let records = records_of(alloc, part_from(history, from, most))?;
+    let records = records_of(alloc, part(history, most))?;
     Ok(records)
 }

@@ -20,7 +20,7 @@ pub use compacting::{compact, compact_into, compaction_pays};
 pub use fault::{CompactFault, Refusal, ReplayFault, RestoreFault, RestoreRefusal};
 pub use leaving::{Restoration, Restored, restore_each};
 pub use lessening::{lessen, lessen_all, records_from, shifts_between};
-pub use needed::steps_needed;
+pub use needed::{list_needed, steps_needed};
 pub use putting::put_history;
 pub use replaying::{replay, replay_one};
 pub use restoring::{restore, restore_one};

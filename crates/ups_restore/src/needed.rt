@@ -75,11 +75,8 @@ fn add_pending(
 /// # Errors
 ///
 /// `Memory`.
-pub fn steps_needed(
-    alloc: Global,
-    manager: &Manager<Global>,
-) -> Result<KeptSteps<Global>, CompactFault>
-    ensures needed { IfOk result (λ steps. steps ≡ steps_needed manager.now.settings (past manager.now.history)) }
+pub fn list_needed(manager: &Manager<Global>) -> Result<Vec<StepUid, Global>, CompactFault>
+    ensures needed { IfOk result (λ v. v.items ≡ steps_needed manager.now.settings (past manager.now.history)) }
     ensures only { IfErr result (λ fault. fault ≡ Memory) }
 {
     let peers = manager.peers();
@@ -87,6 +84,22 @@ pub fn steps_needed(
     for peer in peers {
         add_pending(&mut steps, manager, peer.ae)?;
     }
+    Ok(steps)
+}
+
+/// Returns the same steps as [`list_needed`], with their UIDs in order.
+///
+/// # Errors
+///
+/// `Memory`.
+pub fn steps_needed(
+    alloc: Global,
+    manager: &Manager<Global>,
+) -> Result<KeptSteps<Global>, CompactFault>
+    ensures needed { IfOk result (λ steps. steps ≡ steps_needed manager.now.settings (past manager.now.history)) }
+    ensures only { IfErr result (λ fault. fault ≡ Memory) }
+{
+    let steps = list_needed(manager)?;
     let kept = KeptSteps::of(alloc, steps)?;
     Ok(kept)
 }

@@ -26,6 +26,7 @@ pub(crate) fn tell_settings<R: Log>(rt: &R, asked: &ServeArguments<'_>) {
         idle,
         timeout,
         delivery_timeout,
+        compact_at,
         ..
     } = limits;
     let StartChoices {
@@ -35,7 +36,7 @@ pub(crate) fn tell_settings<R: Log>(rt: &R, asked: &ServeArguments<'_>) {
     } = choices;
     let title = str::from_utf8(asked.ae.as_bytes()).unwrap_or("");
     let (peers, watchers) = (asked.peers.len(), asked.watchers.len());
-    info!(rt; target: "upsd", "upsd {VERSION}: ae={title} bind={bind} port={port} associations={workers} idle={idle} timeout={timeout} delivery-timeout={delivery_timeout} keep={keep} offset={offset} verbose={verbose} audit={audit} peers={peers} watchers={watchers} store={} store-leave-out={may_leave_out} store-other-settings={may_change_terms} compact={may_compact} metrics={}", store.unwrap_or("none"), metrics.unwrap_or("none"));
+    info!(rt; target: "upsd", "upsd {VERSION}: ae={title} bind={bind} port={port} associations={workers} idle={idle} timeout={timeout} delivery-timeout={delivery_timeout} keep={keep} offset={offset} verbose={verbose} audit={audit} peers={peers} watchers={watchers} store={} store-leave-out={may_leave_out} store-other-settings={may_change_terms} compact={may_compact} compact-at={compact_at} metrics={}", store.unwrap_or("none"), metrics.unwrap_or("none"));
     for watcher in asked.watchers.iter() {
         let title = str::from_utf8(watcher.ae.as_bytes()).unwrap_or("");
         info!(rt; target: "upsd", "watcher {title} at {}, port {}", watcher.host, watcher.port);

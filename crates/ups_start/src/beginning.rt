@@ -18,6 +18,7 @@ use crate::carrying::compacted_anew;
 use crate::compacting::{compacted, emptied, tell_compacted};
 use crate::fault::StartFault;
 use crate::ledger::StoreLedger;
+use crate::naming::LedgerNaming;
 use crate::place::StorePlace;
 use crate::reading::Reading;
 use crate::rewriting::rewritten;
@@ -27,6 +28,7 @@ use log::{Log, info, warn};
 use sqlite_trees::store::{Alter, Store};
 use std::alloc::Global;
 use std::time::Clock;
+use ups_lasting::{DraftLedger, LastingLedger};
 use ups_ledger::{Keeper, Ledger};
 use ups_manager::Manager;
 use ups_restore::compaction_pays;
@@ -372,7 +374,8 @@ fn begin_in<P: StorePlace, R: Clock + Log>(
 
 /// Opens the store at a place, enters its requests into a manager, in their order, and begins a run in it. The manager
 /// then has the entries of these requests, or of those that were not left out, or, if that is allowed, their compaction.
-/// If a compaction pays but fails, the start logs that and goes on without it.
+/// If a compaction pays but fails, the start logs that and goes on without it. The ledger that continues the store is that
+/// of all requests from now on, over one that has the name which `naming` gives it.
 ///
 /// The settings of the manager have to permit as much as the terms that the last run noted, unless the choices allow
 /// other terms. The terms that this run notes, in `about`, should be those of these settings
@@ -382,27 +385,38 @@ fn begin_in<P: StorePlace, R: Clock + Log>(
 ///
 /// Open, Read, Terms, UnreadableTerms, Restore, Write, Compact, Memory. The store keeps its requests, or may have those
 /// that replace them if the commit failed.
-pub fn begin<'a, P: StorePlace, R: Clock + Log>(
+pub fn begin<
+    'a,
+    P: StorePlace,
+    D: DraftLedger,
+    N: LedgerNaming<StoreLedger<'a, P>, D>,
+    R: Clock + Log,
+>(
     alloc: Global,
     telling: &R,
+    naming: &N,
     place: P,
     choices: StartChoices,
     about: Run<'a>,
     manager: &mut Manager<Global>,
-) -> Result<Keeper<StoreLedger<'a, P>>, StartFault>
+) -> Result<Keeper<LastingLedger<D>>, StartFault>
     requires new { manager.old.history ≡ [] }
     ensures settings { manager.new.settings ≡ manager.old.settings }
-    ensures kept { IfOk result (λ k. IsKept ⟦<StoreLedger<'a, P> as Ledger>⟧ k manager.new.history) }
-    ensures sound { IfOk result (λ k. ⟦<StoreLedger<'a, P> as Ledger>⟧.is_honest k.ledger → ⟦<StoreLedger<'a, P> as Ledger>⟧.is_sound k.ledger) }
-    ensures honest { IfOk result (λ k. ⟦<StoreLedger<'a, P> as Ledger>⟧.is_sound k.ledger → ⟦<StoreLedger<'a, P> as Ledger>⟧.is_honest k.ledger) }
-    ensures safe { IfOk result (λ k. IsSafe ⟦<StoreLedger<'a, P> as Ledger>⟧ k manager.new.history) }
-    ensures begins { IfOk result (λ k. (found : View) × P.finds place found × (⟦<StoreLedger<'a, P> as Ledger>⟧.is_honest k.ledger → BeginsFrom found manager.old.settings choices (moment_in about.entry) manager.new.history)) }
+    ensures kept { IfOk result (λ k. IsKept ⟦<LastingLedger<D> as Ledger>⟧ k manager.new.history) }
+    ensures sound { IfOk result (λ k. ⟦<LastingLedger<D> as Ledger>⟧.is_honest k.ledger → ⟦<LastingLedger<D> as Ledger>⟧.is_sound k.ledger) }
+    ensures honest { IfOk result (λ k. ⟦<LastingLedger<D> as Ledger>⟧.is_sound k.ledger → ⟦<LastingLedger<D> as Ledger>⟧.is_honest k.ledger) }
+    ensures safe { IfOk result (λ k. IsSafe ⟦<LastingLedger<D> as Ledger>⟧ k manager.new.history) }
+    ensures begins { IfOk result (λ k. (found : View) × P.finds place found × (⟦<LastingLedger<D> as Ledger>⟧.is_honest k.ledger → BeginsFrom found manager.old.settings choices (moment_in about.entry) manager.new.history)) }
     ensures all { IfOk result (λ k. k.committed ≡ length manager.new.history) }
+    ensures compacts { IfOk result (λ k. k.ledger.compaction.empty.settings ≡ manager.new.settings) }
 {
     let begun = begin_in(alloc, telling, &place, choices, &about, manager)?;
+    let empty = emptied(alloc, manager)?;
     let committed = manager.entries();
+    let stored = StoreLedger::of(alloc, place, about, begun, committed as u64);
+    let ledger = naming.named(stored);
     Ok(Keeper {
-        ledger: StoreLedger::of(place, about, begun, committed as u64),
+        ledger: LastingLedger::over(alloc, ledger, manager, empty),
         committed,
     })
 }

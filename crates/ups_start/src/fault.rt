@@ -54,8 +54,8 @@ pub(crate) fn fault_of(fault: StoreFault) -> LedgerFault
     }
 }
 
-/// Returns the `LedgerFault` for a fault of an append. Full says that nothing was appended, so a fault that has shut the
-/// store is told as Write.
+/// Returns the `LedgerFault` for a fault of a call. Full says that nothing has changed, so a fault that has shut the store is
+/// told as Write.
 pub(crate) fn fault_of_append(fault: StoreFault, is_shut: bool) -> LedgerFault
     ensures { result ≡ Full → is_shut ≡ false }
 {

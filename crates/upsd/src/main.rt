@@ -7,6 +7,7 @@ ghost use Rattle.ups_settings.specs.Refusal.{refusal};
 ghost use Rattle.ups_life.specs.Limits.{history_limit, peer_limit};
 
 mod ending;
+mod keeping;
 mod naming;
 mod place;
 mod scripting;

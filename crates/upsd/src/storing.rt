@@ -7,6 +7,7 @@ ghost use Rattle.ups_start.specs.Opened.{ShowsFiles, Resumes};
 ghost use Rattle.upsd.specs.Storing.{compaction_settings};
 
 use crate::ending::{ExitStatus, refuse};
+use crate::keeping::{ServerLedger, ServerNaming};
 use crate::place::{AnyContents, ServerPlace};
 use clap::ArgMatches;
 use log::{Log, info};
@@ -16,51 +17,18 @@ use ups_args::{
     ArgumentFault, CompactArguments, InitArguments, ScriptArguments, VERSION, compact_arguments,
     init_arguments, script_arguments,
 };
-use ups_journal::Record;
-use ups_ledger::{Keeper, Ledger, LedgerFault};
+use ups_lasting::{DraftLedger, LastingLedger};
+use ups_ledger::{Keeper, Ledger};
 use ups_life::{MAX_PEERS, Peer};
 use ups_log::moment_of;
 use ups_manager::Manager;
 use ups_server::{StoreOpener, Unopened};
 use ups_settings::ManagerFault;
 use ups_start::{
-    CompactFault, OpenFault, Run, Start, StartFault, StoreFault, StoreLedger, StorePlace, begin,
-    compact, create, last_terms, look,
+    CompactFault, LedgerNaming, OpenFault, Run, Start, StartFault, StoreFault, StoreLedger,
+    StorePlace, begin, compact, create, last_terms, look,
 };
 use ups_terms::{StartChoices, Terms, terms_text};
-
-/// The ledger of a server of this program, in a store in a file. It is a type of its own: with the place as a type
-/// parameter, the proof of a server exceeds the prover's limit of steps.
-#[derive(Drop)]
-pub(crate) struct ServerLedger<'a> {
-    ledger: StoreLedger<'a, ServerPlace<'a>>,
-}
-
-impl<'a> Ledger for ServerLedger<'a> {
-    ghost kept = { λ l. ⟦<StoreLedger<'a, ServerPlace<'a>> as Ledger>⟧.kept l.ledger };
-
-    ghost told = { λ l. ⟦<StoreLedger<'a, ServerPlace<'a>> as Ledger>⟧.told l.ledger };
-
-    ghost is_sound = { λ l. ⟦<StoreLedger<'a, ServerPlace<'a>> as Ledger>⟧.is_sound l.ledger };
-
-    ghost is_honest = { λ l. ⟦<StoreLedger<'a, ServerPlace<'a>> as Ledger>⟧.is_honest l.ledger };
-
-    ghost is_first = { λ l. ⟦<StoreLedger<'a, ServerPlace<'a>> as Ledger>⟧.is_first l.ledger };
-
-    ghost recovers = { λ l. ⟦<StoreLedger<'a, ServerPlace<'a>> as Ledger>⟧.recovers l.ledger };
-
-    fn run(&self) -> u64 {
-        self.ledger.run()
-    }
-
-    fn append(&mut self, records: &[Record<Global>]) -> Result<(), LedgerFault> {
-        self.ledger.append(records)
-    }
-
-    fn tidy(&mut self) {
-        self.ledger.tidy();
-    }
-}
 
 /// Opens the stores that the command line names. No other part of the program knows how these are kept.
 #[derive(Drop)]
@@ -146,23 +114,31 @@ fn stopped<R: Eprint>(rt: &R, file: &str, fault: &StartFault) -> Result<ExitStat
 /// why the store was not opened.
 ///
 /// Errors: Memory; Told.
-fn open_at<'a, P: StorePlace, R: Clock + Log>(
+fn open_at<
+    'a,
+    P: StorePlace,
+    D: DraftLedger,
+    N: LedgerNaming<StoreLedger<'a, P>, D>,
+    R: Clock + Log,
+>(
     stores: &Stores<'a, R>,
+    naming: &N,
     place: P,
     file: &str,
     choices: StartChoices,
     manager: &mut Manager<Global>,
-) -> Result<Keeper<StoreLedger<'a, P>>, Unopened>
+) -> Result<Keeper<LastingLedger<D>>, Unopened>
     requires new { manager.old.history ≡ [] }
     ensures settings { manager.new.settings ≡ manager.old.settings }
-    ensures kept { IfOk result (λ keeper. IsKept ⟦<StoreLedger<'a, P> as Ledger>⟧ keeper manager.new.history) }
-    ensures safe { IfOk result (λ keeper. IsSafe ⟦<StoreLedger<'a, P> as Ledger>⟧ keeper manager.new.history) }
-    ensures resumes { IfOk result (λ keeper. ⟦<StoreLedger<'a, P> as Ledger>⟧.is_sound keeper.ledger → Resumes (P.finds place) choices manager.old.settings manager.new.history) }
+    ensures kept { IfOk result (λ keeper. IsKept ⟦<LastingLedger<D> as Ledger>⟧ keeper manager.new.history) }
+    ensures safe { IfOk result (λ keeper. IsSafe ⟦<LastingLedger<D> as Ledger>⟧ keeper manager.new.history) }
+    ensures resumes { IfOk result (λ keeper. ⟦<LastingLedger<D> as Ledger>⟧.is_sound keeper.ledger → Resumes (P.finds place) choices manager.old.settings manager.new.history) }
     ensures all { IfOk result (λ keeper. keeper.committed ≡ length manager.new.history) }
 {
     match begin(
         stores.rt.alloc(),
         stores.telling,
+        naming,
         place,
         choices,
         stores.run,
@@ -217,7 +193,7 @@ impl<'a, R: Clock + Log> StoreOpener<'a, ServerLedger<'a>> for Stores<'a, R> {
         manager: &mut Manager<Global>,
     ) -> Result<(ServerLedger<'a>, usize), Unopened> {
         let place = ServerPlace::new(self.rt, file);
-        let keeper = open_at(self, place, file, choices, manager)?;
+        let keeper = open_at(self, &ServerNaming, place, file, choices, manager)?;
         let Keeper { ledger, committed } = keeper;
         Ok((ServerLedger { ledger }, committed))
     }

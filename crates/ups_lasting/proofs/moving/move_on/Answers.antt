@@ -14,6 +14,13 @@ returns-in-Surveying-clause-agrees g c =
     (λ next p k a. p k s (subst (λ (x : Stage). Agrees s x (g.D.DraftLedger.kept c.args.ledger.now) (g.D.DraftLedger.drafts c.args.ledger.now)) c.in-Surveying.is a))
     c.survey_next.ensures.agrees
 
+pub returns-in-Sorting-clause-agrees : goal.returns-in-Sorting-clause-agrees
+returns-in-Sorting-clause-agrees g c =
+    let s = c.args.empty.now.settings in
+    let kept = g.D.DraftLedger.kept c.args.ledger.now in
+    let drafts = g.D.DraftLedger.drafts c.args.ledger.now in
+    if_ok _ _ c.sort_next.result (λ next p k a. p s kept drafts (subst (λ (x : Stage). Agrees s x kept drafts) c.in-Sorting.is a)) c.sort_next.ensures.agrees
+
 pub returns-in-Carrying-clause-agrees : goal.returns-in-Carrying-clause-agrees
 returns-in-Carrying-clause-agrees g c =
     let s = c.args.empty.now.settings in

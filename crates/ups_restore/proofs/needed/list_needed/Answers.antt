@@ -1,7 +1,7 @@
 use Rattle.ups_life.specs.Steps.{past}
 use Rattle.ups_life.specs.Watching.{held}
 use Rattle.ups_restore.proofs.Needing.{peer_more}
-use Rattle.ups_restore.proofs.needed.steps_needed.Goals as goal
+use Rattle.ups_restore.proofs.needed.list_needed.Goals as goal
 
 pub loop-peer-preserved : goal.loop-peer-preserved
 loop-peer-preserved c =

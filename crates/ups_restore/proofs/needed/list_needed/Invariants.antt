@@ -2,7 +2,7 @@ use Rattle.std.proofs.Common.{◌≡◌, ◌++◌, take}
 use Rattle.ups_life.specs.Steps.{past}
 use Rattle.ups_life.specs.Watching.{held}
 use Rattle.ups_compact.specs.Compacting.{steps_pending}
-use Rattle.ups_restore.proofs.needed.steps_needed.Given as goal
+use Rattle.ups_restore.proofs.needed.list_needed.Given as goal
 
 abbrev pub invariant-loop-peer : goal.invariant-loop-peer
 invariant-loop-peer l =
