@@ -3,10 +3,11 @@
 
     bench/beside.py [PROGRAM] [--held 100000] [--seconds 10] [--folder FOLDER]      (default: crates/upsd/out/upsd)
 
-A server begins on an empty store. Steps are created, so many (--held), and stay. Two associations then ask all the time: one for an
-N-GET of a step, the other for an N-CREATE, one after the other with a pause of 2 ms. First this goes on for so many seconds without a
-compaction, and then until one that begins meanwhile is done. It prints how many were asked, the median, the 99th and the 99.9th of 100,
-and the longest, in milliseconds, and what the log says of the compaction. FOLDER is where the store is laid, on the disk to be tried.
+A server begins on an empty store, with the environment that its unit gives it. Steps are created, so many (--held), and stay. Two
+associations then ask all the time: one for an N-GET of a step, the other for an N-CREATE, one after the other with a pause of 2 ms.
+First this goes on for so many seconds without a compaction, and then until one that begins meanwhile is done. It prints how many
+were asked, the median, the 99th and the 99.9th of 100, and the longest, in milliseconds, and what the log says of the compaction.
+FOLDER is where the store is laid, on the disk to be tried.
 """
 
 from __future__ import annotations
@@ -24,6 +25,7 @@ TOP = os.path.dirname(os.path.dirname(os.path.abspath(__file__)))
 sys.path.insert(0, os.path.join(TOP, "check/lib"))
 from dicom import create, get
 from peer import PUSH_ON, a_step
+from server import as_service
 from stored import Client, Stored
 
 BATCH, PAUSE, PATIENCE = 100, 0.002, 600.0  # creations that are sent at once, seconds between two requests, and for a compaction
@@ -83,8 +85,9 @@ def main() -> None:
     given = asked.parse_args()
     with contextlib.ExitStack() as ends:
         folder = ends.enter_context(tempfile.TemporaryDirectory(dir=given.folder))
-        words = ["--keep", "1000000", "--compact-at", str(given.held + 2_000), "--associations", "8"]
-        server = ends.enter_context(Stored([os.path.abspath(given.program)], os.path.join(folder, "store"), *words))
+        spare = int(given.seconds / PAUSE)  # more than are created meanwhile
+        words = ["--keep", "1000000", "--compact-at", str(given.held + spare), "--associations", "8"]
+        server = ends.enter_context(Stored(as_service(os.path.abspath(given.program)), os.path.join(folder, "store"), *words))
         fill(server.port, 0, given.held)
         print("| | asked | median | 99 % | 99.9 % | longest |\n|---|---|---|---|---|---|")
         base = 2_000_000
@@ -92,7 +95,7 @@ def main() -> None:
             askers = [Asker(server.port, b"GETS", lambda number, count: get(PUSH_ON, number, uid_of(count % given.held))),
                       Asker(server.port, b"CREATES", lambda number, count, base=base: create(PUSH_ON, number, uid_of(base + count), STEP))]
             if name != "without":
-                fill(server.port, 1_000_000, 2_000)  # now the compaction is due
+                fill(server.port, 1_000_000, spare)  # now the compaction is due
             for it in askers:
                 it.start()
             begun = time.monotonic()

@@ -14,7 +14,8 @@ report at once. AWAY is subscribed to the steps that are held, and to 2,000 othe
 lives. Its port refuses connections until the stations have ended; then it listens.
 
 The stations go on until so many requests (--entries) are accepted, of theirs and acknowledgements of the two watchers; they wait
-while a watcher is 400 reports of progress behind. The following has to hold:
+while a watcher is 400 reports of progress behind. The server has the environment that its unit gives it. The following has to
+hold:
 
     requests   each one is accepted
     memory     the most that is resident in the last twentieth of the way is at most 1.2 times the most in the twentieth before a
@@ -65,7 +66,7 @@ from listeners import Incoming
 from machine import holds, pid_of, resident
 from peer import GLOBAL, PULL_ON, PUSH_ON, a_step, claim, subscribe, told, unsubscribe
 from results import Results
-from server import Server
+from server import Server, as_service
 from stored import FAULTS, READINESS, READY, STATE_REPORT, WAITING, Client, text_in
 
 KEEP = 1  # seconds
@@ -541,7 +542,7 @@ def spend(server: Server, watchers: list[Watcher], given: argparse.Namespace, co
 def restart(words: list[str], counts: Counts, most: int, results: Results) -> None:
     """Starts the server on its store as it is, then with a compaction, and judges what it knows."""
     for name, option in ("restart", []), ("with --compact", ["--compact"]):
-        with Server(words[:1], *words[1:], *option) as server:
+        with Server(as_service(words[0]), *words[1:], *option) as server:
             memory, client = memory_of(server), Client(server.port)
             fault = None if memory <= most else f"{most / 1e6:,.1f} MB at most are due"
             results.tell(f"{name}: {server.took:.1f} s, {memory / 1e6:,.1f} MB", fault)
@@ -559,7 +560,7 @@ def run(program: str, folder: str, watchers: list[Watcher], given: argparse.Name
         subprocess.run([program, "init", file], check=True, stdout=subprocess.DEVNULL)
         words += ["--store", file]
     words += [it.place + rights.get(it.title, "") for it in watchers]
-    with Server(words[:1], *words[1:]) as server:
+    with Server(as_service(program), *words[1:]) as server:
         spend(server, watchers, given, counts, results)
         most = memory_of(server)
         server.process.kill()

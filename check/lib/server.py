@@ -12,7 +12,14 @@ import time
 from collections.abc import Mapping
 from typing import IO, Callable, Optional, Union
 
+UNIT = os.path.join(os.path.dirname(os.path.abspath(__file__)), "../../packaging/upsd.service")
 Sink = Union[int, IO[bytes]]  # where standard error goes
+
+
+def as_service(program: str) -> list[str]:
+    """Returns the words that start a program with the environment that the unit of the package gives it."""
+    with open(UNIT, encoding="utf-8") as unit:
+        return ["env", *re.findall(r"^Environment=(\S+)$", unit.read(), re.MULTILINE), program]
 
 
 class Server:

@@ -7,7 +7,6 @@ use Rattle.ups_life.specs.declared.entry.Entry.{Entry}
 use Rattle.ups_life.specs.declared.event.Event.{Event}
 use Rattle.ups_life.specs.declared.peer.Peer.{Peer}
 use Rattle.ups_life.specs.declared.event.Report.{Report}
-use Rattle.ups_life.specs.declared.event_reports.EventReport.{EventReport}
 use Rattle.ups_life.specs.Settings.{Settings}
 use Rattle.ups_life.specs.Steps.{named_step}
 use Rattle.ups_life.specs.Watching.{held, is_among, is_held, is_peer, removed}
@@ -50,10 +49,6 @@ to_tell s es w = map reported (pending s es w)
 -- the events among these that are about these steps
 abbrev pub of_steps : List (List ℕ) → List Event → List Event
 of_steps steps xs = filter (λ (x : Event). is_among x.step steps) xs
-
--- the events of event reports
-abbrev pub events_of : {A : Type 0} → List (EventReport A) → List Event
-events_of reports = map (λ r. r.event) reports
 
 -- these entries, followed by w's acknowledgement up to a number, if there is one: made by this caller, at this moment
 abbrev pub with_ack : {A : Type 0} → ℕ → ℕ → List ℕ → Option ℕ → List (Entry A) → List (Entry A)

@@ -65,9 +65,9 @@ no_entries : (es : List (Entry Global)) → length es ≡ 0 → es ≡ []
 no_entries [] e = refl
 no_entries (x ∷ xs) e = absurd (omega arith)
 
-pub carried_none : (s : Settings) (content : List (Record Global)) (whole : ManagerView Global) (steps : List (List ℕ)) (kept : List (Entry Global)) (drafts : List (Record Global))
+none_carried : (s : Settings) (content : List (Record Global)) (whole : ManagerView Global) (steps : List (List ℕ)) (kept : List (Entry Global)) (drafts : List (Record Global))
     → steps ≡ steps_needed s (past whole.history) → kept ≡ [] → drafts ≡ [] → IsSurveyed s content whole → AreCarried s content whole steps kept 0 0 drafts
-carried_none s content whole steps kept drafts needed none drawn i = record {
+none_carried s content whole steps kept drafts needed none drawn i = record {
   surveyed = i;
   needed = needed;
   within = omega arith;
@@ -82,6 +82,12 @@ carried_none s content whole steps kept drafts needed none drawn i = record {
         are = drawn;
       };
 }
+
+-- what is known of a manager is seen as the manager
+pub carried_none : (s : Settings) (content : List (Record Global)) (whole survey : ManagerView Global) (steps : List (List ℕ)) (kept : List (Entry Global)) (drafts : List (Record Global)) → survey ≡ whole
+    → steps ≡ steps_needed s (past whole.history) → kept ≡ [] → drafts ≡ [] → IsSurveyed s content whole → AreCarried s content survey steps kept 0 0 drafts
+carried_none s content whole survey steps kept drafts same needed none drawn i =
+    subst (λ (m : ManagerView Global). AreCarried s content m steps kept 0 0 drafts) (sym same) (none_carried s content whole steps kept drafts needed none drawn i)
 
 -- further records are read once more
 carried_behind : (s t : Settings) (content records : List (Record Global)) (most : ℕ) (whole : ManagerView Global) (steps : List (List ℕ)) (old new : List (Entry Global)) (read drafted : ℕ) (drafts : List (Record Global))

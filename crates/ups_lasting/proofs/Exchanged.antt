@@ -14,7 +14,7 @@ use Rattle.ups_lasting.specs.declared.following.Followed.{Followed}
 use Rattle.ups_lasting.specs.declared.following.Followed.TheVariants.{Drafted, Exchanged, Doubtful}
 use Rattle.ups_lasting.specs.Exchanging.{StandsIf, Drafts, Follows, HasExchanged, MayHaveExchanged, MayTakePlace, EndsExchange, TakesPlace}
 use Rattle.ups_lasting.specs.Slices.{Stays}
-use Rattle.ups_lasting.specs.Stages.{Agrees, StandsBy, IsFollowed}
+use Rattle.ups_lasting.specs.Stages.{StandsBy, IsFollowed}
 use Rattle.ups_lasting.specs.Standing.{firsts}
 use mathlib.Core.Logic.{∥∥₁_elim, ∥∥₁_map}
 use Rattle.ups_lasting.specs.Tending.{IsAgreed, StandsBySome}

@@ -1,5 +1,5 @@
 -- What is known of a ledger of the log goes on to hold.
-use Rattle.std.proofs.Common.{◌≡◌, ◌⊎◌, inl, inr, Bool, true, false, List, [], ◌∷◌, ◌++◌, ℕ, ◌+◌, map, refl, sym, ap, subst, ◌∙◌}
+use Rattle.std.proofs.Common.{◌≡◌, ◌⊎◌, inl, inr, Bool, true, false, List, [], ◌++◌, ℕ, ◌+◌, map, refl, sym, ap, subst, ◌∙◌}
 use Rattle.std.specs.Global.{Global}
 use mathlib.Core.Logic.{∥∥₁_map}
 use Rattle.ups_life.specs.Settings.{Settings}

@@ -59,7 +59,7 @@ pub record AreCarried (s : Settings) (content : List (Record Global)) (whole : M
   pub drafts_are : (log : List (Entry Global)) → AreRecordsOf s (take read content) log → AreDrafted kept drafted drafts
 
 abbrev pub IsCarried : Settings → List (Record Global) → Carriage → Type 0
-IsCarried s content c = AreCarried s content c.whole c.steps c.fresh.history c.read c.drafted (firsts c.drafts.items)
+IsCarried s content c = AreCarried s content c.survey c.steps c.fresh.history c.read c.drafted (firsts c.drafts.items)
 
 -- the history is left of a log, and the numbers of each watcher's events are less by this much
 pub record IsLeftLess (s : Settings) (log by : List (Entry Global)) (less : List ℕ → ℕ) : Type 0 where

@@ -22,9 +22,9 @@ use http_server::Log;
 use std::alloc::Global;
 use ups_compact::{KeptSteps, StepSorting};
 use ups_journal::Record;
-use ups_ledger::LedgerFault;
+use ups_ledger::{Disposer, LedgerFault, Waste};
 use ups_manager::Manager;
-use ups_restore::{carry_record, list_needed};
+use ups_restore::{Survey, carry_record, list_needed};
 
 /// Returns the steps of which a compaction of the records in a manager loses nothing, none of them in order.
 ///
@@ -55,20 +55,25 @@ pub(crate) fn sort_on(alloc: Global, n: Sorting) -> Result<Sorting, LedgerFault>
 }
 
 /// Returns the beginning of the second reading: no record was read once more. `steps` are the steps needed of the records
-/// in a manager.
+/// in a manager. That one is no longer needed.
 ///
 /// Errors: Full.
-pub(crate) fn begin_carriage(
+pub(crate) fn begin_carriage<B: Disposer>(
     alloc: Global,
     whole: Manager<Global>,
     steps: KeptSteps<Global>,
+    disposer: &B,
 ) -> Result<Carriage, LedgerFault>
     ensures carried { IfOk result (λ c. (s : Settings) → (content : List (Record Global)) → IsSurveyed s content whole → steps ≡ steps_needed s (past whole.history) → IsCarried s content c) }
     ensures drafts { IfOk result (λ c. firsts c.drafts.items ≡ []) }
 {
     let fresh = emptied(alloc, &whole)?;
+    let Ok(survey) = Survey::of(alloc, &whole) else {
+        return Err(LedgerFault::Full);
+    };
+    disposer.dispose(Waste::Manager(whole));
     Ok(Carriage {
-        whole,
+        survey,
         steps,
         fresh,
         read: 0,
@@ -124,7 +129,7 @@ fn carry<D: DraftLedger>(alloc: Global, ledger: &mut D, c: &mut Carriage) -> Res
     ensures drafts { D.is_sound ledger.new → D.drafts ledger.new ≡ D.drafts ledger.old }
     ensures stays { Stays D.DraftLedger ledger.old ledger.new }
 {
-    let left = c.whole.entries().saturating_sub(c.read);
+    let left = c.survey.entries().saturating_sub(c.read);
     let records = ledger.read(c.read as u64, left.min(SLICE))?;
     let Some(next) = c.read.checked_add(records.len()) else {
         return Err(LedgerFault::Full);
@@ -145,10 +150,10 @@ pub(crate) fn carry_on<D: DraftLedger>(
 ) -> Result<bool, LedgerFault>
     ensures carried { OnOk result (D.is_sound ledger.new → (s : Settings) → IsCarried s (D.kept ledger.old) c.old → IsCarried s (D.kept ledger.old) c.new) }
     ensures put { OnOk result (D.is_sound ledger.new → D.drafts ledger.old ≡ firsts c.old.drafts.items → D.drafts ledger.new ≡ firsts c.new.drafts.items) }
-    ensures all { IfOk result (λ all. all ≡ true → length c.new.whole.history ≤ c.new.read) }
+    ensures all { IfOk result (λ all. all ≡ true → length c.new.survey.history ≤ c.new.read) }
     ensures stays { Stays D.DraftLedger ledger.old ledger.new }
 {
     carry(alloc, ledger, c)?;
     draft_on(alloc, ledger, &c.fresh, &mut c.drafted, &mut c.drafts)?;
-    Ok(c.whole.entries() <= c.read)
+    Ok(c.survey.entries() <= c.read)
 }

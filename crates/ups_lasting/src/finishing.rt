@@ -13,7 +13,7 @@ use crate::drafting::draft_on;
 use crate::stage::{Carriage, Finish, Follow};
 use std::alloc::Global;
 use ups_ledger::{Disposer, LedgerFault, Waste};
-use ups_restore::{acknowledge, shifts_between};
+use ups_restore::{acknowledge_surveyed, shifts_between};
 
 /// Enters the acknowledgements behind what is kept, and returns the compacted history.
 ///
@@ -25,27 +25,24 @@ pub(crate) fn finish<B: Disposer>(
     disposer: &B,
 ) -> Result<Finish, LedgerFault>
     requires { IsMoment moment }
-    ensures finished { IfOk result (λ f. (s : Settings) → (content : List (Record Global)) → IsCarried s content c → length c.whole.history ≤ c.read → IsFinished s content f) }
+    ensures finished { IfOk result (λ f. (s : Settings) → (content : List (Record Global)) → IsCarried s content c → length c.survey.history ≤ c.read → IsFinished s content f) }
     ensures drafts { IfOk result (λ f. firsts f.drafts.items ≡ firsts c.drafts.items) }
 {
     let Carriage {
-        whole,
+        survey,
         steps,
         mut fresh,
         read,
         drafted,
         drafts,
     } = c;
-    let Ok(()) = acknowledge(alloc, &whole, &mut fresh, moment) else {
+    let Ok(()) = acknowledge_surveyed(alloc, &survey, &mut fresh, moment) else {
         return Err(LedgerFault::Full);
     };
-    let Ok(shifts) = shifts_between(alloc, &whole, &fresh) else {
+    let Ok(shifts) = shifts_between(alloc, &survey, &fresh) else {
         return Err(LedgerFault::Full);
     };
-    disposer.dispose(Waste {
-        manager: whole,
-        steps: Some(steps),
-    });
+    disposer.dispose(Waste::Steps(steps));
     Ok(Finish {
         fresh,
         shifts,
@@ -83,10 +80,7 @@ pub(crate) fn begin_follow<B: Disposer>(f: Finish, disposer: &B) -> Follow
         drafted: _,
         drafts,
     } = f;
-    disposer.dispose(Waste {
-        manager: fresh,
-        steps: None,
-    });
+    disposer.dispose(Waste::Manager(fresh));
     Follow {
         shifts,
         from,

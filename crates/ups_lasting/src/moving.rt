@@ -55,12 +55,12 @@ fn survey_next<D: DraftLedger>(
 /// Puts further steps in order. Returns the stage after that.
 ///
 /// Errors: Full.
-fn sort_next(alloc: Global, n: Sorting) -> Result<Stage, LedgerFault>
+fn sort_next<B: Disposer>(alloc: Global, n: Sorting, disposer: &B) -> Result<Stage, LedgerFault>
     ensures agrees { IfOk result (λ next. (s : Settings) → (content drafts : List (Record Global)) → Agrees s (Stage.Sorting n) content drafts → Agrees s next content drafts) }
 {
     let Sorting { whole, steps } = sort_on(alloc, n)?;
     match steps.finish() {
-        Ok(steps) => Ok(Stage::Carrying(begin_carriage(alloc, whole, steps)?)),
+        Ok(steps) => Ok(Stage::Carrying(begin_carriage(alloc, whole, steps, disposer)?)),
         Err(steps) => Ok(Stage::Sorting(Sorting { whole, steps })),
     }
 }
@@ -123,7 +123,7 @@ pub(crate) fn move_on<D: DraftLedger, B: Disposer>(
     match stage {
         Stage::Clearing => clear(alloc, ledger, empty),
         Stage::Surveying(whole) => survey_next(alloc, ledger, whole),
-        Stage::Sorting(n) => sort_next(alloc, n),
+        Stage::Sorting(n) => sort_next(alloc, n, disposer),
         Stage::Carrying(c) => carry_next(alloc, ledger, c, moment, disposer),
         Stage::Finishing(f) => finish_next(alloc, ledger, f, disposer),
         stage => Ok(stage),

@@ -7,6 +7,7 @@ use std::alloc::Global;
 use ups_compact::{KeptSteps, Shifts, StepSorting};
 use ups_journal::Record;
 use ups_manager::Manager;
+use ups_restore::Survey;
 
 /// The most records that are read, entered, drafted or deleted in a slice.
 pub(crate) const SLICE: usize = 64;
@@ -45,8 +46,8 @@ pub struct Sorting {
 /// The records that are read once more.
 #[derive(Drop)]
 pub struct Carriage {
-    /// The manager that has entered the records.
-    pub(crate) whole: Manager<Global>,
+    /// What is known of the manager that has entered the records.
+    pub(crate) survey: Survey,
     /// The steps of which the compaction loses nothing.
     pub(crate) steps: KeptSteps<Global>,
     /// The manager for those that are kept.
@@ -57,7 +58,7 @@ pub struct Carriage {
     pub(crate) drafted: usize,
     /// The drafts, for contracts alone.
     pub(crate) drafts: Log<Record<Global>, ()>,
-    ghost same: { fresh.settings ≡ whole.settings },
+    ghost same: { fresh.settings ≡ survey.settings },
 }
 
 /// A compacted history, of which the rest is drafted.

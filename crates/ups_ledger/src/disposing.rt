@@ -4,13 +4,13 @@ use std::alloc::Global;
 use ups_compact::KeptSteps;
 use ups_manager::Manager;
 
-/// What a compaction no longer needs. With a hundred thousand steps it takes a fifth of a second to drop.
+/// What a compaction no longer needs. With many steps it takes long to drop.
 #[derive(Drop)]
-pub struct Waste {
+pub enum Waste {
     /// A manager that has entered records.
-    pub manager: Manager<Global>,
-    /// The steps of which the compaction lost nothing.
-    pub steps: Option<KeptSteps<Global>>,
+    Manager(Manager<Global>),
+    /// The steps of which the compaction loses nothing.
+    Steps(KeptSteps<Global>),
 }
 
 /// Disposes of what a compaction no longer needs.

@@ -27,7 +27,7 @@ ghost use Rattle.ups_service.specs.Reporting.{reports_to};
 
 use crate::answering::answer_call;
 use crate::memory;
-use crate::peers::{acked_at, first_pending, made_at, waiting_at, watched_in};
+use crate::peers::{acked_at, all_pending, first_pending, made_at, waiting_at, watched_in};
 use crate::reporting::reports_of;
 use crate::reserve::Reserve;
 use crate::rows::{find, uids_of};
@@ -40,7 +40,7 @@ use ups_dataset::Tag;
 use ups_history::History;
 use ups_index::Index;
 use ups_life::{
-    Ask, Configuration, Entry, Holder, MAX_HISTORY, Peer, Reply, StepUid, Watched, shown,
+    Ask, Configuration, Entry, Event, Holder, MAX_HISTORY, Peer, Reply, StepUid, Watched, shown,
 };
 use ups_match::{Keys, Matcher, Probe};
 use ups_pdu::Ae;
@@ -352,6 +352,18 @@ impl<A: Allocator + Copy> Manager<A> {
             Ok(reports) => Reply::Reports(reports),
             Err(_) => Reply::Status(Status::ResourceLimitation),
         }
+    }
+
+    /// Returns the events that [`Manager::pending`] reports, all of them, without their Event Information (PS3.4 CC.2.4).
+    ///
+    /// # Errors
+    ///
+    /// If memory runs out.
+    pub fn events_waiting(&self, ae: Ae) -> Result<Vec<Event, A>, AllocError>
+        ensures { IfOk result (λ v. v.items ≡ pending self.now.settings (past self.now.history) ae) }
+    {
+        let place = place_of(self.configuration.peers(), ae);
+        all_pending(self.alloc, &self.tables, place)
     }
 
     /// Returns the number of events that wait for a watcher (PS3.4 CC.2.4), without each State Report that a later one

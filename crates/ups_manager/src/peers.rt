@@ -79,6 +79,21 @@ pub(crate) fn first_pending<A: Allocator + Copy>(
     }
 }
 
+/// Returns all events that are pending for the peer at an index, oldest first (PS3.4 CC.2.4).
+///
+/// Errors: if memory runs out.
+pub(crate) fn all_pending<A: Allocator + Copy>(
+    alloc: A,
+    tables: &Tables<A>,
+    place: Option<usize>,
+) -> Result<Vec<Event, A>, AllocError>
+    requires { (p : ℕ) → place ≡ Some p → p < length tables.now.queues }
+    ensures { IfOk result (λ v. v.items ≡ (by_place empty_line (λ p. queue_line tables.now p) place).events) }
+{
+    let waiting = waiting_at(tables, place);
+    first_pending(alloc, tables, place, waiting as u64)
+}
+
 /// Returns the number of events that were made for the peer at an index.
 pub(crate) fn made_at<A: Allocator + Copy>(tables: &Tables<A>, place: Option<usize>) -> u64
     requires { (p : ℕ) → place ≡ Some p → p < length tables.now.queues }

@@ -1,6 +1,6 @@
 -- Acknowledgements behind a history.
-use Rattle.std.proofs.Common.{◌≡◌, ℕ, ◌<◌, ◌+◌, List, [], ◌∷◌, ◌++◌, length, take, get_or, Option, None, Some, sym, ap, ◌∙◌}
-use Rattle.std.proofs.lemmas.List.{append_assoc, append-nil, take_more}
+use Rattle.std.proofs.Common.{◌≡◌, ℕ, ◌<◌, ◌≤◌, ◌+◌, List, [], ◌∷◌, ◌++◌, length, take, get_or, Option, None, Some, sym, ap, ◌∙◌}
+use Rattle.std.proofs.lemmas.List.{append_assoc, append-nil, take_all, take_more}
 use Rattle.std.proofs.lemmas.List.Elements.{All-nil, All-cons}
 use Rattle.std.specs.List.{All}
 use Rattle.ups_life.specs.declared.entry.Entry.{Entry}
@@ -47,3 +47,6 @@ module _ {A : Type 0} (caller moment : ℕ) where
         put
         ∙ ((λ k. was k ++ ack_of caller moment p.ae (own k))
         ∙ (sym (more_acks (take i ps) p) ∙ ap (acks caller moment number) (ap (λ (x : Peer). take i ps ++ x ∷ []) is ∙ sym (take_more ps i p low))))
+
+    pub all_acks : (ps : List Peer) (i : ℕ) (es : List (Entry A)) → length ps ≤ i → es ≡ acks caller moment number (take i ps) → es ≡ acks caller moment number ps
+    all_acks ps i es end was = was ∙ ap (acks caller moment number) (take_all i ps end)

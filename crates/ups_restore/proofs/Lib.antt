@@ -1,5 +1,6 @@
 mod Acks
 mod Between
+mod Counted
 mod Going
 mod Groups
 mod Keeping
@@ -7,6 +8,5 @@ mod Leftover
 mod Legally
 mod Needing
 pub mod Onward
-mod Pending
 mod Runs
 mod Taking

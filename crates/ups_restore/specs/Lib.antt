@@ -2,3 +2,4 @@ pub mod Compacting
 pub mod Leaving
 pub mod Lessening
 pub mod Replaying
+pub mod Surveying

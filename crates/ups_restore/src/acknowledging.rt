@@ -1,15 +1,17 @@
 //! The acknowledgements of watchers that follow a compact history.
 
-ghost use Rattle.std.specs.Prelude.{◌≡◌, ◌++◌, IfOk, IfErr, OnOk};
+ghost use Rattle.std.specs.Prelude.{◌≡◌, ◌-◌, ◌++◌, length, IfOk, IfErr, OnOk};
+ghost use Rattle.ups_life.specs.Events.{events};
 ghost use Rattle.ups_life.specs.Settings.{IsMoment};
 ghost use Rattle.ups_life.specs.Steps.{past};
 ghost use Rattle.ups_service.specs.Law.{is_legal};
-ghost use Rattle.ups_compact.specs.Compacting.{compacted_for, left_for, steps_needed};
+ghost use Rattle.ups_compact.specs.Compacting.{above_zero, compacted_for, left_for, steps_needed};
 ghost use Rattle.ups_restore.specs.declared.fault.CompactFault.TheVariants.{Memory};
 ghost use Rattle.ups_restore.specs.Compacting.{known_behind, ack_of, acks, IsNoRefusal};
 
 use crate::fault::{CompactFault, RestoreRefusal};
 use crate::replaying::replay;
+use crate::survey::{EventCount, Survey};
 use std::alloc::{AllocError, Global};
 use ups_life::{Entry, Request};
 use ups_manager::Manager;
@@ -18,16 +20,13 @@ use ups_pdu::Ae;
 /// The caller of the acknowledgements that follow a compact history. No pass to a service has this number.
 pub const COMPACTOR: u32 = 0;
 
-/// Returns the number up to which a peer knows the events of a fresh manager, or None if it knows none of them: all but as
-/// many as it has not acknowledged in `manager`. It takes no memory.
-fn known_by(manager: &Manager<Global>, fresh: &Manager<Global>, ae: Ae) -> Option<u64>
-    requires settings { fresh.now.settings ≡ manager.now.settings }
-    ensures { result ≡ known_behind manager.now.settings manager.now.history fresh.now.history ae }
+/// Returns the number up to which a watcher knows the events of a fresh manager, or None if it knows none of them: all but
+/// as many as it has not acknowledged of those counted. It takes no memory.
+fn known_by(count: &EventCount, fresh: &Manager<Global>) -> Option<u64>
+    ensures { result ≡ above_zero (length (events fresh.now.settings (past fresh.now.history) count.now.ae) - (count.now.made - count.now.acknowledged)) }
 {
-    let unacknowledged = manager
-        .events_made(ae)
-        .saturating_sub(manager.events_acknowledged(ae));
-    let number = fresh.events_made(ae).saturating_sub(unacknowledged);
+    let unacknowledged = count.made.saturating_sub(count.acknowledged);
+    let number = fresh.events_made(count.ae).saturating_sub(unacknowledged);
     if number > 0 { Some(number) } else { None }
 }
 
@@ -58,30 +57,58 @@ fn add_known(
 /// Errors: if memory runs out.
 fn acknowledgements(
     alloc: Global,
-    manager: &Manager<Global>,
+    survey: &Survey,
     fresh: &Manager<Global>,
     moment: u64,
 ) -> Result<Vec<Entry<Global>, Global>, CompactFault>
-    requires settings { fresh.now.settings ≡ manager.now.settings }
-    ensures entries { IfOk result (λ v. v.items ≡ acks COMPACTOR moment (known_behind manager.now.settings manager.now.history fresh.now.history) manager.now.settings.peers) }
+    requires settings { fresh.now.settings ≡ survey.now.settings }
+    ensures entries { IfOk result (λ v. v.items ≡ acks COMPACTOR moment (known_behind survey.now.settings survey.now.history fresh.now.history) survey.now.settings.peers) }
     ensures only { IfErr result (λ fault. fault ≡ Memory) }
 {
-    let peers = manager.peers();
+    let counts = survey.counts();
     let mut entries = Vec::new(alloc);
-    for peer in peers {
-        let number = known_by(manager, fresh, peer.ae);
-        add_known(&mut entries, moment, peer.ae, number)?;
+    for count in counts {
+        let number = known_by(count, fresh);
+        add_known(&mut entries, moment, count.ae, number)?;
     }
     Ok(entries)
 }
 
 /// Enters into a fresh manager the acknowledgements of the peers that know some of its events, made at `moment` by
-/// [`COMPACTOR`]: each watcher has then as many events before it as in the other manager. If the fresh manager has the
-/// entries of the other that are kept for the steps needed, it then has its compacted history.
+/// [`COMPACTOR`]: each watcher has then as many events before it as in the manager surveyed. If the fresh manager has the
+/// entries of that one that are kept for the steps needed, it then has its compacted history.
 ///
 /// # Errors
 ///
 /// `Memory`; `Entering` at the first that is not entered. If they legally continue its history, only if memory runs out.
+pub fn acknowledge_surveyed(
+    alloc: Global,
+    survey: &Survey,
+    fresh: &mut Manager<Global>,
+    moment: u64,
+) -> Result<(), CompactFault>
+    requires moment { IsMoment moment }
+    requires settings { fresh.old.settings ≡ survey.now.settings }
+    ensures entered { OnOk result (fresh.new.history ≡ fresh.old.history ++ acks COMPACTOR moment (known_behind survey.now.settings survey.now.history fresh.old.history) survey.now.settings.peers) }
+    ensures compacted { OnOk result (past fresh.old.history ≡ left_for survey.now.settings (steps_needed survey.now.settings (past survey.now.history)) (past survey.now.history) → past fresh.new.history ≡ compacted_for COMPACTOR moment survey.now.settings (steps_needed survey.now.settings (past survey.now.history)) (past survey.now.history)) }
+    ensures only { is_legal fresh.old.settings (fresh.old.history ++ acks COMPACTOR moment (known_behind survey.now.settings survey.now.history fresh.old.history) survey.now.settings.peers) → IfErr result IsNoRefusal }
+    ensures settings { fresh.new.settings ≡ fresh.old.settings }
+    ensures legal { is_legal fresh.new.settings fresh.new.history }
+{
+    let _count = survey.entries();
+    let _history = fresh.history();
+    let entries = acknowledgements(alloc, survey, fresh, moment)?;
+    match replay(fresh, entries) {
+        Ok(()) => Ok(()),
+        Err(fault) => Err(CompactFault::Entering(RestoreRefusal::Entry(fault.refusal))),
+    }
+}
+
+/// Enters the acknowledgements of the peers as [`acknowledge_surveyed`] does, by another manager.
+///
+/// # Errors
+///
+/// Those of [`acknowledge_surveyed`].
 pub fn acknowledge(
     alloc: Global,
     manager: &Manager<Global>,
@@ -96,11 +123,7 @@ pub fn acknowledge(
     ensures settings { fresh.new.settings ≡ fresh.old.settings }
     ensures legal { is_legal fresh.new.settings fresh.new.history }
 {
-    let _count = manager.entries();
     let _history = fresh.history();
-    let entries = acknowledgements(alloc, manager, fresh, moment)?;
-    match replay(fresh, entries) {
-        Ok(()) => Ok(()),
-        Err(fault) => Err(CompactFault::Entering(RestoreRefusal::Entry(fault.refusal))),
-    }
+    let survey = Survey::of(alloc, manager)?;
+    acknowledge_surveyed(alloc, &survey, fresh, moment)
 }

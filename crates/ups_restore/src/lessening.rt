@@ -1,6 +1,7 @@
 //! The shifts between a history and its compaction, and the records that go on with it: their numbers of events are less.
 
-ghost use Rattle.std.specs.Prelude.{◌≡◌, ◌++◌, [], ◌∷◌, ℕ, List, All, map, take, drop, IfSome, IfOk, IfErr, OnOk};
+ghost use Rattle.std.specs.Prelude.{◌≡◌, ◌-◌, ◌++◌, [], ◌∷◌, ℕ, List, All, length, map, take, drop, IfSome, IfOk, IfErr, OnOk};
+ghost use Rattle.ups_life.specs.Events.{events};
 ghost use Rattle.ups_life.specs.Steps.{past};
 ghost use Rattle.ups_journal.specs.Columns.{recorded};
 ghost use Rattle.ups_journal.specs.Writable.{IsWritableEntry};
@@ -10,12 +11,13 @@ ghost use Rattle.ups_restore.specs.Compacting.{IsNoRefusal};
 ghost use Rattle.ups_restore.specs.Lessening.{event_less, columns_less, lessened};
 
 use crate::fault::CompactFault;
+use crate::survey::{EventCount, Survey};
 use std::alloc::{AllocError, Global};
 use ups_compact::Shifts;
 use ups_journal::{Columns, Record, RecordingFault, record_of};
 use ups_life::Entry;
 use ups_manager::Manager;
-use ups_pdu::{Ae, Bytes};
+use ups_pdu::Bytes;
 
 /// Returns the number of an event, made less, if there is one.
 fn event_less(less: u64, event: Option<u64>) -> Option<u64>
@@ -120,34 +122,34 @@ pub fn lessen_all(
     Ok(copies)
 }
 
-/// Returns how many more events were made for a watcher in a whole history than in a shorter one. It takes no memory.
-fn shift_of(whole: &Manager<Global>, fresh: &Manager<Global>, ae: Ae) -> u64
-    requires { fresh.now.settings ≡ whole.now.settings }
-    ensures { result ≡ shift whole.now.settings (past fresh.now.history) (past whole.now.history) ae }
+/// Returns how many more events of a watcher were counted than were made for it in a fresh manager. It takes no memory.
+fn shift_of(count: &EventCount, fresh: &Manager<Global>) -> u64
+    ensures { result ≡ count.now.made - length (events fresh.now.settings (past fresh.now.history) count.now.ae) }
 {
-    whole.events_made(ae).saturating_sub(fresh.events_made(ae))
+    count.made.saturating_sub(fresh.events_made(count.ae))
 }
 
-/// Returns the shifts from a whole history to a shorter one that stands for it: by how much the numbers of the events of
-/// each watcher are less in the shorter one (PS3.4 CC.2.4). That of an application entity that is no peer is 0.
+/// Returns the shifts from the history of a manager surveyed to a shorter one that stands for it: by how much the numbers
+/// of the events of each watcher are less in the shorter one (PS3.4 CC.2.4). That of an application entity that is no peer
+/// is 0.
 ///
 /// # Errors
 ///
 /// If memory runs out.
 pub fn shifts_between(
     alloc: Global,
-    whole: &Manager<Global>,
+    survey: &Survey,
     fresh: &Manager<Global>,
 ) -> Result<Shifts<Global>, AllocError>
-    requires { fresh.now.settings ≡ whole.now.settings }
-    ensures { IfOk result (λ shifts. (w : List ℕ) → less_by shifts w ≡ shift whole.now.settings (past fresh.now.history) (past whole.now.history) w) }
+    requires { fresh.now.settings ≡ survey.now.settings }
+    ensures { IfOk result (λ shifts. (w : List ℕ) → less_by shifts w ≡ shift survey.now.settings (past fresh.now.history) (past survey.now.history) w) }
 {
-    let _count = whole.entries();
-    let peers = whole.peers();
+    let _count = survey.entries();
+    let counts = survey.counts();
     let mut shifts = Shifts::none(alloc);
-    for peer in peers {
-        let less = shift_of(whole, fresh, peer.ae);
-        shifts.push(peer.ae, less)?;
+    for count in counts {
+        let less = shift_of(count, fresh);
+        shifts.push(count.ae, less)?;
     }
     Ok(shifts)
 }

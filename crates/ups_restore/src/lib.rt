@@ -13,8 +13,9 @@ mod needed;
 mod putting;
 mod replaying;
 mod restoring;
+mod survey;
 
-pub use acknowledging::{COMPACTOR, acknowledge};
+pub use acknowledging::{COMPACTOR, acknowledge, acknowledge_surveyed};
 pub use carrying::carry_record;
 pub use compacting::{compact, compact_into, compaction_pays};
 pub use fault::{CompactFault, Refusal, ReplayFault, RestoreFault, RestoreRefusal};
@@ -24,3 +25,4 @@ pub use needed::{list_needed, steps_needed};
 pub use putting::put_history;
 pub use replaying::{replay, replay_one};
 pub use restoring::{restore, restore_one};
+pub use survey::Survey;

@@ -1,54 +1,27 @@
 //! The steps of which a compaction loses nothing.
 
-ghost use Rattle.std.specs.Prelude.{◌≡◌, ◌<◌, ◌++◌, length, IfOk, IfErr, OnOk};
+ghost use Rattle.std.specs.Prelude.{◌≡◌, ◌++◌, IfOk, IfErr, OnOk};
 ghost use Rattle.ups_life.specs.Events.{pending};
 ghost use Rattle.ups_life.specs.Steps.{past};
-ghost use Rattle.ups_compact.specs.Compacting.{events_of, steps_of_events, steps_needed};
+ghost use Rattle.ups_compact.specs.Compacting.{steps_of_events, steps_needed};
 ghost use Rattle.ups_restore.specs.declared.fault.CompactFault.TheVariants.{Memory};
 
 use crate::fault::CompactFault;
 use std::alloc::{AllocError, Global};
 use ups_compact::KeptSteps;
-use ups_life::{EventReport, EventReports, Reply, StepUid};
+use ups_life::{Event, StepUid};
 use ups_manager::Manager;
 use ups_pdu::Ae;
 
-/// Returns the number of reports, which is less than `u64::MAX`, since each takes memory.
-fn count_of(reports: &[EventReport<Global>]) -> usize
-    ensures count { result ≡ length reports.now }
-    ensures few { result < u64.MAX }
-{
-    reports.len()
-}
-
-/// Returns the reports of all events that are pending for a peer.
+/// Adds the steps of events.
 ///
 /// Errors: if memory runs out.
-fn pending_of(manager: &Manager<Global>, ae: Ae) -> Result<EventReports<Global>, CompactFault>
-    ensures events { IfOk result (λ reports. events_of reports ≡ pending manager.now.settings (past manager.now.history) ae) }
-    ensures only { IfErr result (λ fault. fault ≡ Memory) }
+fn add_steps(steps: &mut Vec<StepUid, Global>, events: &[Event]) -> Result<(), AllocError>
+    ensures { OnOk result (steps.new.items ≡ steps.old.items ++ steps_of_events events.now) }
 {
-    match manager.pending(ae, u64::MAX) {
-        Reply::Reports(reports) => {
-            // There are fewer than were asked for, so these are all.
-            let _count = count_of(reports.as_slice());
-            Ok(reports)
-        }
-        _ => Err(CompactFault::Memory),
-    }
-}
-
-/// Adds the steps of event reports.
-///
-/// Errors: if memory runs out.
-fn add_steps(
-    steps: &mut Vec<StepUid, Global>,
-    reports: &[EventReport<Global>],
-) -> Result<(), AllocError>
-    ensures { OnOk result (steps.new.items ≡ steps.old.items ++ steps_of_events (events_of reports.now)) }
-{
-    for report in reports {
-        steps.push(report.event.step)?;
+    steps.reserve(events.len())?;
+    for event in events {
+        steps.push(event.step)?;
     }
     Ok(())
 }
@@ -64,8 +37,8 @@ fn add_pending(
     ensures added { OnOk result (steps.new.items ≡ steps.old.items ++ steps_of_events (pending manager.now.settings (past manager.now.history) ae)) }
     ensures only { IfErr result (λ fault. fault ≡ Memory) }
 {
-    let reports = pending_of(manager, ae)?;
-    add_steps(steps, reports.as_slice())?;
+    let events = manager.events_waiting(ae)?;
+    add_steps(steps, events.as_slice())?;
     Ok(())
 }
 

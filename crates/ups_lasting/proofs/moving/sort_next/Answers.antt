@@ -2,7 +2,7 @@ use Rattle.std.proofs.Common.{sym, ◌∙◌}
 use Rattle.ups_lasting.proofs.moving.sort_next.Goals as goal
 
 pub returns-in_ok-begin_carriage-in-Ok : goal.returns-in_ok-begin_carriage-in-Ok
-returns-in_ok-begin_carriage-in-Ok c = record {
+returns-in_ok-begin_carriage-in-Ok g c = record {
   agrees = λ s content drafts i.
       let n = c.in_ok-whole.ensures.sorting s content i.0 in (
         c.in_ok-begin_carriage-in-Ok.ensures.carried s content n.0 (c.in-Ok.ensures.kept ∙ n.1),
@@ -11,7 +11,7 @@ returns-in_ok-begin_carriage-in-Ok c = record {
 }
 
 pub returns-in-Err : goal.returns-in-Err
-returns-in-Err c = record {
+returns-in-Err g c = record {
   agrees = λ s content drafts i.
       let n = c.in_ok-whole.ensures.sorting s content i.0 in
       ((n.0, c.in-Err.ensures.same ∙ n.1), i.1);

@@ -1,4 +1,4 @@
-use Rattle.std.proofs.Common.{List, inr, sym, subst, ◌∙◌}
+use Rattle.std.proofs.Common.{inr, sym, subst, ◌∙◌}
 use Rattle.ups_life.specs.Settings.{Settings}
 use Rattle.ups_compact.specs.Shifts.{less_by}
 use Rattle.ups_lasting.specs.Doubting.{is_exchange}
