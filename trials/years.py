@@ -32,7 +32,7 @@ hold:
     worklist   a C-FIND finds the steps that are held, as they are, and no other
     log        it has no error, tells of no lack of memory, and that AWAY was away and is back
     restart    with --store the server is killed in the end, and started on its store as it is, and then with --compact: the worklist
-               is the same, the UIDs stay used, and it takes no more memory than before it was killed
+               is the same, the UIDs stay used, and it takes no more memory than the server did in the last twentieth and after
 
 It ends by itself; 3,000,000 requests take some minutes. It prints a line for each tenth of the way and for each check, and then
 `years: N passed, M failed`. The status is 1 if any failed.
@@ -509,16 +509,17 @@ def judge_log(log: list[str], results: Results) -> None:
 
 # the trial
 
-def spend(server: Server, watchers: list[Watcher], given: argparse.Namespace, counts: Counts, results: Results) -> None:
-    """Spends the years, and judges them."""
+def spend(server: Server, watchers: list[Watcher], given: argparse.Namespace, counts: Counts, results: Results) -> int:
+    """Spends the years, judges them, and returns the most memory from the last twentieth of the way on."""
     client = Client(server.port)
     begin(client, counts)
     over, (here, there) = multiprocessing.Event(), multiprocessing.Pipe()
     multiprocessing.Process(target=look, args=(server.port, over, there), daemon=True).start()
     client.release()
     samples = go(server, given.entries, given.rate, counts, results)
+    late = greatest(samples, given.entries * 19 / 20, samples[-1][0])
     if results.failed:
-        return
+        return late
     judge_memory(samples, given.entries, counts, results)
     await_quiet(counts.entries)
     began, away = time.monotonic(), watchers[-1]
@@ -537,6 +538,7 @@ def spend(server: Server, watchers: list[Watcher], given: argparse.Namespace, co
     judge_log(server.log, results)
     client.release()
     print(f"    in the end: {memory_of(server) / 1e6:,.1f} MB", flush=True)
+    return max(late, memory_of(server))
 
 
 def restart(words: list[str], counts: Counts, most: int, results: Results) -> None:
@@ -561,8 +563,7 @@ def run(program: str, folder: str, watchers: list[Watcher], given: argparse.Name
         words += ["--store", file]
     words += [it.place + rights.get(it.title, "") for it in watchers]
     with Server(as_service(program), *words[1:]) as server:
-        spend(server, watchers, given, counts, results)
-        most = memory_of(server)
+        most = spend(server, watchers, given, counts, results)
         server.process.kill()
     if given.store:
         restart(words, counts, most, results)

@@ -13,7 +13,7 @@ use std::collections::{HashMap, VecDeque};
 use std::hash::{BuildHasherDefault, FoldHasher};
 use ups_life::{Event, EventKind, StepUid};
 
-/// The number of spent slots that are left in place beside half of all slots: few are not worth a walk over the others.
+/// The number of spent slots that are left in place beside a quarter of all slots: few are not worth a walk over the others.
 const SPENT_LEFT: usize = 32;
 
 /// The number of the live State Report of each step that has one.
@@ -191,14 +191,14 @@ pub(crate) fn counted(spent: usize, superseded: bool) -> usize {
     }
 }
 
-/// Drops the spent slots, of which there are at most `spent`, if they may exceed half of all slots by `SPENT_LEFT`.
+/// Drops the spent slots, of which there are at most `spent`, if they may exceed a quarter of all slots by `SPENT_LEFT`.
 /// Returns an upper bound of the number of spent slots then.
 pub(crate) fn tidy<A: Allocator + Copy>(slots: &mut VecDeque<EventSlot, A>, spent: usize) -> usize
     ensures slots { (slots.new.items ≡ slots.old.items) ⊎ (slots.new.items ≡ filter is_live slots.old.items) }
     ensures len { deque_len slots.new ≤ deque_len slots.old }
     ensures capacity { deque_capacity slots.new ≡ deque_capacity slots.old }
 {
-    if spent < SPENT_LEFT || spent - SPENT_LEFT < slots.len() / 2 {
+    if spent < SPENT_LEFT || spent - SPENT_LEFT < slots.len() / 4 {
         return spent;
     }
     compact(slots);

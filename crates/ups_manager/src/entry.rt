@@ -47,7 +47,8 @@ fn make_all_room<A: Allocator + Copy>(
 {
     make_index_room(index, &decision.change)?;
     make_room(configuration, history, tables, call, &decision.plan)?;
-    reserve.leave(&call.request, history.len())
+    let remembered = history.in_memory().saturating_add(tables.used.len());
+    reserve.leave(&call.request, history.len(), remembered)
 }
 
 /// Enters an accepted call by the decision about it: makes room for its whole effect, checks that a creation leaves the

@@ -34,7 +34,7 @@ const SMALL_SET: u64 = 16_384;
 /// What so many entries take at most, in bytes, beside what the tables grow by: 22 for each byte of their data sets.
 const AHEAD: usize = 33_554_432;
 
-/// What the tables take for an entry at most, in bytes, if all of them grow at once.
+/// What the tables take for an entry or a UID that is remembered, at most, in bytes, if all of them grow at once.
 const GROWTH: usize = 4_096;
 
 /// Allocates `count` blocks of a size.
@@ -110,36 +110,43 @@ impl<A: Allocator + Copy> Reserve<A> {
         self.is_one_block(SIZE) || probe_blocks(self.alloc).is_ok()
     }
 
-    // Returns whether the reserve can be allocated beside what the next entries may take, after `entries` entries.
-    fn is_far(&mut self, entries: usize) -> bool {
-        let growth = entries.saturating_mul(GROWTH);
+    // Returns whether the reserve can be allocated beside what the next entries may take, with so many entries and UIDs
+    // that are remembered.
+    fn is_far(&mut self, remembered: usize) -> bool {
+        let growth = remembered.saturating_mul(GROWTH);
         self.is_one_block(growth.saturating_add(SIZE + AHEAD))
     }
 
     // Returns whether the reserve is left after `entries` entries: by the last look ahead, another one, or as it is.
-    fn is_left(&mut self, entries: usize) -> bool {
+    fn is_left(&mut self, entries: usize, remembered: usize) -> bool {
         if entries < self.until {
             return true;
         }
-        if self.is_far(entries) {
+        if self.is_far(remembered) {
             self.until = entries.saturating_add(ENTRIES);
             return true;
         }
         self.is_there()
     }
 
-    /// Checks that a request that creates a step leaves the reserve, after `entries` entries. Every other request may use
-    /// the reserve, which is for requests on the existing steps.
+    /// Checks that a request that creates a step leaves the reserve, after `entries` entries; `remembered` are those in
+    /// memory and the used UIDs, with which the tables grow. Every other request may use the reserve, which is for requests
+    /// on the existing steps.
     ///
     /// Errors: if a request that creates a step does not leave it. Any other request succeeds.
-    pub(crate) fn leave(&mut self, request: &Request<A>, entries: usize) -> Result<(), AllocError>
+    pub(crate) fn leave(
+        &mut self,
+        request: &Request<A>,
+        entries: usize,
+        remembered: usize,
+    ) -> Result<(), AllocError>
         ensures request { OnErr result (is_create request.now ≡ true) }
     {
         if set_size(request) > SMALL_SET {
             self.until = 0;
         }
         match request {
-            Request::Create { .. } if !self.is_left(entries) => Err(AllocError),
+            Request::Create { .. } if !self.is_left(entries, remembered) => Err(AllocError),
             _ => Ok(()),
         }
     }
