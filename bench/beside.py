@@ -21,6 +21,7 @@ import tempfile
 import threading
 import time
 from collections.abc import Callable
+from typing import Optional
 
 TOP = os.path.dirname(os.path.dirname(os.path.abspath(__file__)))
 sys.path.insert(0, os.path.join(TOP, "check/lib"))
@@ -76,7 +77,7 @@ def told_of(took: list[float]) -> str:
     return f"{len(took):,} | " + " | ".join(f"{it:.2f}" for it in parts)
 
 
-def measure(program: str, held: int, seconds: float, within: str) -> dict[str, float]:
+def measure(program: str, held: int, seconds: float, within: Optional[str]) -> dict[str, float]:
     """Measures one server, prints a row for each kind of request, and returns the longest time of each."""
     longest = dict[str, float]()
     with contextlib.ExitStack() as ends:
