@@ -31,12 +31,6 @@ none_lessened : (less : List ℕ → ℕ) (rs : List (Record Global)) → map (l
 none_lessened less [] none = refl
 none_lessened less (r ∷ rs) none = absurd cc
 
--- with nothing tried, what is left is what was said
-pub left_said : (content said tried : List (Record Global)) (less : List ℕ → ℕ) (is_exchange : Bool) (found rs : List (Record Global)) → tried ≡ [] → AreLeft content said tried less is_exchange found rs → rs ≡ said
-left_said content said tried less is_exchange found rs none (inl a) = a.1
-left_said content said tried less is_exchange found rs none (inr (inl a)) = a.1 ∙ (ap (λ (xs : List (Record Global)). said ++ xs) none ∙ append-nil said)
-left_said content said tried less is_exchange found rs none (inr (inr a)) = a.1
-
 -- AN APPEND FAILED while the ledger was open, which then had its content alone: the crash leaves that, or also these records
 module _ {L : Type 0} (g : Ghosts L) (old new : L) (content said was tried : List (Record Global)) (less : List ℕ → ℕ) (was_exchange : Bool) (records : List (Record Global)) where
   pub crash_failed : (g.is_sound old → g.kept old ≡ content) → (g.is_first old → (rs : List (Record Global)) → g.recovers old rs → g.is_sound old)

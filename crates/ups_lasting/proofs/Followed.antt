@@ -1,8 +1,7 @@
 -- What follows a compacted history.
 use Rattle.std.proofs.Common.{◌≡◌, ℕ, ◌<◌, ◌≤◌, ◌+◌, List, ◌++◌, length, map, take, drop, sym, ap, subst, ◌∙◌, arith}
-use Rattle.std.proofs.lemmas.List.{append_assoc, append-nil, length-drop, length-take, length-take-le, map-append, take-append-drop, take_all, drop_all, drop-map, drop-append-le}
+use Rattle.std.proofs.lemmas.List.{append_assoc, length-drop, length-take, length-take-le, map-append, take-append-drop, take_all, drop-map, drop-append-le}
 use Rattle.std.proofs.lemmas.List.Elements.{All-append, All-drop}
-use Rattle.std.specs.List.{All}
 use Rattle.std.specs.Global.{Global}
 use Rattle.ups_life.specs.declared.entry.Entry.{Entry}
 use Rattle.ups_life.specs.Settings.{Settings}
@@ -16,26 +15,8 @@ use Rattle.ups_compact.specs.Shifting.{shift}
 use Rattle.ups_compact.proofs.Standing.{left_stands}
 use Rattle.ups_restore.specs.Lessening.{lessened}
 use Rattle.ups_restore.proofs.Onward.{goes_on_by}
-use Rattle.ups_lasting.specs.Stages.{AreFinished, AreFollowed, StandsBy}
+use Rattle.ups_lasting.specs.Stages.{AreFollowed, StandsBy}
 use Rattle.ups_lasting.proofs.Fronts.{take_on, length_on, of_front}
-
--- once all of the compacted history is drafted, nothing follows yet
-pub followed_none : (s : Settings) (content : List (Record Global)) (kept : List (Entry Global)) (less : List ℕ → ℕ) (from drafted : ℕ) (drafts : List (Record Global))
-    → length kept ≤ drafted → AreFinished s content kept less from drafted drafts → AreFollowed s content less from from drafts
-followed_none s content kept less from drafted drafts all f = record {
-  behind = omega arith;
-  within = f.within;
-  goes = λ log o once.
-      let d = f.drafts_are log o in
-      let whole : take drafted kept ≡ kept = take_all drafted kept all in
-      let few : length (take from content) ≤ from = omega (arith, length-take from content) in
-      record {
-        by = kept;
-        writable = subst (λ (es : List (Entry Global)). All (λ (e : Entry Global). IsWritableEntry e) es) whole d.writable;
-        left = f.left log o once;
-        are = d.are ∙ (ap (map recorded) whole ∙ (sym (append-nil (map recorded kept)) ∙ ap (λ (l : List (Record Global)). map recorded kept ++ map (lessened less) l) (sym (drop_all from (take from content) few))));
-      };
-}
 
 followed_behind : (s : Settings) (content records copies drafts after : List (Record Global)) (less : List ℕ → ℕ) (from read most : ℕ)
     → records ≡ take most (drop read content) → copies ≡ map (lessened less) records → after ≡ drafts ++ copies

@@ -1,5 +1,5 @@
 -- What is known of a ledger of the log goes on to hold.
-use Rattle.std.proofs.Common.{◌≡◌, ◌⊎◌, inl, inr, Bool, true, false, List, [], ◌++◌, ℕ, ◌+◌, map, refl, sym, ap, subst, ◌∙◌}
+use Rattle.std.proofs.Common.{◌≡◌, ◌⊎◌, inl, inr, Bool, true, false, List, ◌++◌, ℕ, ◌+◌, map, refl, sym, ap, subst, ◌∙◌}
 use Rattle.std.specs.Global.{Global}
 use mathlib.Core.Logic.{∥∥₁_map}
 use Rattle.ups_life.specs.Settings.{Settings}
@@ -10,11 +10,10 @@ use Rattle.ups_lasting.specs.declared.doubt.Doubt.TheVariants.{Nothing, Append, 
 use Rattle.ups_lasting.specs.declared.draft_ledger.DraftLedger.{Ghosts}
 use Rattle.ups_lasting.specs.declared.stage.Stage.{Stage}
 use Rattle.ups_lasting.specs.Doubting.{is_append, is_sure}
-use Rattle.ups_lasting.specs.Leaving.{AreLeft, Appended, Failed, LeavesOfLog, LeavesStanding}
+use Rattle.ups_lasting.specs.Leaving.{AreLeft, Appended, Failed, LeavesStanding}
 use Rattle.ups_lasting.specs.Stages.{StandsBy}
 use Rattle.ups_lasting.specs.Standing.{StandsForLog, StandsForSome}
 use Rattle.ups_lasting.specs.Tending.{IsAgreed, StandsBySome}
-use Rattle.ups_lasting.proofs.Appending.{left_said}
 use Rattle.ups_lasting.proofs.Stages.{agrees_on}
 
 -- the laws of records that stand for a log, as contracts tell them
@@ -149,12 +148,3 @@ module _ (s : Settings) where
         at first found (inr (sound, inl same)) = ∣ (said, inl (same ∙ now sound, refl), some_stands found content said less (same ∙ now sound) (stands sound)) ∣₁
         at first found (inr (sound, inr some)) =
             ∥∥₁_map some (λ x. (said, inr (inr (refl, refl)), ∣ (_, stands_next across content (g.kept old) found said x.0 less (now sound) (stands sound) x.1) ∣₁))
-
-    -- WHAT A CRASH LEAVES OF THE LOG stays, if the ledger was open
-    pub crash_said : (is_exchange : Bool) (rs after : List (Record Global)) (fewer : List ℕ → ℕ) → tried ≡ [] → (g.is_first old → (found : List (Record Global)) → g.recovers old found → g.is_sound old) → g.is_first old
-        → (x : LeavesOfLog g new after said tried fewer is_exchange rs) → g.recovers old x.found ⊎ g.is_sound old → g.is_sound old × (rs ≡ said)
-    crash_said is_exchange rs after fewer none up first x which = (at which, left_said after said tried fewer is_exchange x.found rs none x.are)
-      where
-        at : g.recovers old x.found ⊎ g.is_sound old → g.is_sound old
-        at (inl before) = up first x.found before
-        at (inr sound) = sound

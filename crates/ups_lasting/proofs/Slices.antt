@@ -1,13 +1,10 @@
 -- Slices one after another.
-use Rattle.std.proofs.Common.{refl, ◌∙◌, inl, inr}
+use Rattle.std.proofs.Common.{◌∙◌, inl, inr}
 use Rattle.std.specs.Prelude.{Result, Ok, Err, OnOk, IfOk}
 use Rattle.ups_lasting.specs.declared.draft_ledger.DraftLedger.{Ghosts}
 use Rattle.ups_lasting.specs.Slices.{Stays}
 
 module _ {L : Type 0} (g : Ghosts L) where
-  pub stays_itself : (l : L) → Stays g l l
-  stays_itself l = record { same = λ k. refl; sound = λ k. k; first = λ k. k; crash = λ first rs can. inl can }
-
   pub stays_then : (a b c : L) → Stays g a b → Stays g b c → Stays g a c
   stays_then a b c x y = record {
     same = λ k. y.same k ∙ x.same (y.sound k);

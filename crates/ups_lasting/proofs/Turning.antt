@@ -1,6 +1,6 @@
 -- What a slice of a compaction does, by its result.
 use Rattle.std.proofs.Common.{◌≡◌, List, refl, sym, subst}
-use Rattle.std.specs.Prelude.{Ok, Err}
+use Rattle.std.specs.Prelude.{Ok}
 use Rattle.std.specs.Global.{Global}
 use mathlib.Core.Logic.{∥∥₁_map}
 use Rattle.ups_life.specs.Settings.{Settings}
@@ -21,12 +21,6 @@ module _ {L : Type 0} (g : Ghosts L) (s : Settings) (old new : L) where
   module _ (before after : Stage) (st : Stays g old new) (agreed : g.is_sound new → IsAgreed s after (g.kept new) (g.drafts new)) where
     pub turns_going : Turns g s old new before after (Ok tended.Going)
     turns_going = record { agrees = agreed; same = st.same; exchanged = tt; sound = st.sound; first = st.first; crash = st.crash; left = tt; unsound = tt; doubt = tt }
-
-    pub turns_resting : Turns g s old new before after (Ok tended.Resting)
-    turns_resting = record { agrees = agreed; same = st.same; exchanged = tt; sound = st.sound; first = st.first; crash = st.crash; left = tt; unsound = tt; doubt = tt }
-
-    pub turns_failed : (fault : LedgerFault) → Turns g s old new before after (Err fault)
-    turns_failed fault = record { agrees = agreed; same = st.same; exchanged = tt; sound = st.sound; first = st.first; crash = st.crash; left = tt; unsound = tt; doubt = tt }
 
   -- nothing is under way
   pub agreed_resting : (after : Stage) → after ≡ Resting → g.is_sound new → IsAgreed s after (g.kept new) (g.drafts new)

@@ -13,7 +13,7 @@ use ups_tables::Tables;
 const LOOKED_AT: usize = 256;
 
 /// The most entries that stayed for an event that one call looks at again.
-const LOOKED_AT_AGAIN: usize = 64;
+const LOOKED_AT_AGAIN: usize = 256;
 
 /// Looks at the entry set aside that is next: it stays if an event that is pending refers to it, and leaves otherwise.
 /// Returns whether there was one, and memory for it if it stays.

@@ -1,5 +1,5 @@
 -- The digest of records behind others.
-use Rattle.std.proofs.Common.{◌≡◌, ℕ, ◌+◌, List, [], ◌++◌, length, take, refl, sym, subst, ap, ◌∙◌, arith}
+use Rattle.std.proofs.Common.{◌≡◌, ℕ, ◌+◌, List, [], ◌++◌, length, take, sym, subst, ap, ◌∙◌, arith}
 use Rattle.std.proofs.lemmas.List.{length-append, append-nil, take_all}
 use Rattle.std.proofs.lemmas.List.Sums.{fold-append}
 use Rattle.std.specs.declared.alloc.Global.{Global}
@@ -42,10 +42,6 @@ front_alone all front there has = front_same has.front all front has.same (has.a
 -- they are behind as many as were committed
 pub are_behind : (all records : List (Record Global)) (front : Front) → AreBehindSame all front records → AreBehind all front.count records
 are_behind all records front behind = record { front = behind.front; many = behind.same.many; are = behind.are }
-
--- no records have the front of none
-pub none_known : (records : List (Record Global)) (front : Front) → front ≡ record { count = 0; digest = 0 } → records ≡ [] → AreFront records front
-none_known records front is none = front_same [] records front (subst (λ (f : Front). AreFront [] f) (sym is) (record { many = refl; same = refl })) none
 
 -- the front of the drafts is what is known of them
 pub known_is : (drafts : List (Record Global)) (front : Front) → AreFront drafts front → AreKnown drafts (Known front)
