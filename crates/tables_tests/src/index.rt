@@ -215,6 +215,38 @@ fn a_large_index_finds_as_many(rt: HostRuntime) -> Result<(), Fail> {
     finds_in_a_large_one(&rt, &mut Index::new(rt.alloc(), 0))
 }
 
+/// Gives a step to an index, and removes it again.
+fn pass_through<'a>(
+    alloc: Global,
+    heap: &'a Refusing<Global>,
+    index: &mut Index<&'a Refusing<Global>>,
+    number: u32,
+) -> Result<(), Fail> {
+    let step = step_of(alloc, format!(in alloc; "{number}")?.as_str())?;
+    put(heap, index, step, "00741202=READS 00404005=20240229")?;
+    index.remove(step);
+    Ok(())
+}
+
+/// Gives many steps to an index, one after the other, and removes each.
+fn pass_many<'a>(
+    alloc: Global,
+    heap: &'a Refusing<Global>,
+    index: &mut Index<&'a Refusing<Global>>,
+) -> Result<(), Fail> {
+    for number in 0..2_000 {
+        pass_through(alloc, heap, index, number)?;
+    }
+    Ok(())
+}
+
+#[test]
+fn an_index_takes_no_memory_for_steps_that_were_removed(rt: HostRuntime) -> Result<(), Fail> {
+    let heap = Refusing::new(rt.alloc());
+    heap.refuse_above(4_096);
+    pass_many(rt.alloc(), &heap, &mut Index::new(&heap, 0))
+}
+
 /// Gives a step the values of a row while the growth with this number is refused, and returns whether that succeeds.
 fn is_put<'a>(
     heap: &'a Refusing<Global>,

@@ -23,8 +23,8 @@ pub viewed_len : {A : Type 0} (texts : List (StoredText A)) (seen : List (Tag ×
 viewed_len texts seen is = sym (length-map texts text_view) ∙ ap length is
 
 -- that of the index, which is the least of all
-module _ (cap len most steps texts starts spare : ℕ) (is : min (min (cap - len) (most - len)) (min steps (min texts starts)) ≡ spare) where
-  pub slot_room : (n : ℕ) → n + 1 ≤ spare → len < cap
+module _ (room len most steps texts starts spare : ℕ) (is : min (min room (most - len)) (min steps (min texts starts)) ≡ spare) where
+  pub slot_room : (n : ℕ) → n + 1 ≤ spare → 0 < room
   slot_room n has = omega arith
 
   pub step_room : (n : ℕ) → n + 1 ≤ spare → 0 < steps
@@ -36,10 +36,10 @@ module _ (cap len most steps texts starts spare : ℕ) (is : min (min (cap - len
   pub start_room : (n : ℕ) → n + 1 ≤ spare → 0 < starts
   start_room n has = omega arith
 
-  pub room_left : (n new_cap new_len new_steps new_texts new_starts : ℕ) → new_len ≡ len + 1 → new_cap ≡ cap → steps ≤ new_steps + 1 → texts ≤ new_texts + n → starts ≤ new_starts + 1
-      → spare ≤ min (min (new_cap - new_len) (most - new_len)) (min new_steps (min new_texts new_starts)) + (n + 1)
-  room_left n new_cap new_len new_steps new_texts new_starts longer same s t p = omega arith
+  pub room_left : (n new_room new_len new_steps new_texts new_starts : ℕ) → new_len ≡ len + 1 → room ≤ new_room + 1 → steps ≤ new_steps + 1 → texts ≤ new_texts + n → starts ≤ new_starts + 1
+      → spare ≤ min (min new_room (most - new_len)) (min new_steps (min new_texts new_starts)) + (n + 1)
+  room_left n new_room new_len new_steps new_texts new_starts longer same s t p = omega arith
 
-  pub room_kept : (new_steps new_texts new_starts : ℕ) → steps ≤ new_steps → texts ≤ new_texts → starts ≤ new_starts
-      → spare ≤ min (min (cap - len) (most - len)) (min new_steps (min new_texts new_starts))
-  room_kept new_steps new_texts new_starts s t p = omega arith
+  pub room_kept : (new_room new_len new_steps new_texts new_starts : ℕ) → room ≤ new_room → new_len ≡ len → steps ≤ new_steps → texts ≤ new_texts → starts ≤ new_starts
+      → spare ≤ min (min new_room (most - new_len)) (min new_steps (min new_texts new_starts))
+  room_kept new_room new_len new_steps new_texts new_starts more same s t p = omega arith

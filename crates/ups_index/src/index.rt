@@ -9,7 +9,8 @@ ghost use Rattle.ups_index.specs.Posts.{KeepsOthers, HasTexts, HasStart};
 use crate::exchanging::{exchange_start, exchange_texts};
 use crate::numbers::{moment_number, step_number, text_number};
 use crate::posts::Posts;
-use crate::slots::{StepSlot, look_up, place_of, put_start, put_texts, take_start, take_texts};
+use crate::slot_table::{IndexedStep, SlotTable};
+use crate::slots::{look_up, place_of, put_start, put_texts, take_start, take_texts};
 use crate::values::Values;
 use std::alloc::{AllocError, Allocator};
 use std::marker::Model;
@@ -30,7 +31,7 @@ pub struct Index<A: Allocator + Copy> {
     /// The offset of a start without one, in minutes east of UTC.
     offset: i16,
     /// The steps, each at a place that it keeps.
-    slots: Vec<StepSlot<A>, A>,
+    slots: SlotTable<A>,
     /// The posts by the numbers of UIDs.
     steps: Posts<A>,
     /// The posts by the numbers of texts.
@@ -57,24 +58,24 @@ impl<A: Allocator + Copy> Model for Index<A> {
 
     ghost Value = { Contents };
 
-    ghost use Rattle.ups_index.specs.Kept.{KeepsIndex, least_room, seen_slots};
+    ghost use Rattle.ups_index.specs.Kept.{KeepsIndex, least_room};
+    ghost use Rattle.ups_index.specs.Slots.{seen_slots};
 
-    ghost view = { λ x. record { offset = x.offset; steps = seen_slots x.slots.items; spare = least_room x.slots x.steps.room x.texts.room x.starts.room } };
+    ghost view = { λ x. record { offset = x.offset; steps = seen_slots x.slots.slots; spare = least_room x.slots x.steps.room x.texts.room x.starts.room } };
 
-    ghost invariant = { λ x. KeepsIndex x.slots.items x.steps.posts x.texts.posts x.starts.posts };
+    ghost invariant = { λ x. KeepsIndex x.slots.slots x.steps.posts x.texts.posts x.starts.posts };
 }
 
 /// Replaces the posts of the values of the step at a place by those of new values.
 fn exchange_values<A: Allocator + Copy>(
     texts: &mut Posts<A>,
     starts: &mut Posts<A>,
-    old: &Option<Values<A>>,
+    old: &Values<A>,
     new: &Values<A>,
     place: u32,
 )
-    requires held { IsSome old.now }
-    requires texts { IfSome old.now (λ old. HasTexts old.texts place texts.old.posts) }
-    requires starts { IfSome old.now (λ old. HasStart old.start place starts.old.posts) }
+    requires texts { HasTexts old.now.texts place texts.old.posts }
+    requires starts { HasStart old.now.start place starts.old.posts }
     requires text_room { length new.now.texts ≤ texts.old.room }
     requires start_room { 0 < starts.old.room }
     ensures texts { HasTexts new.now.texts place texts.new.posts }
@@ -84,9 +85,6 @@ fn exchange_values<A: Allocator + Copy>(
     ensures keeps_starts { KeepsOthers place starts.old.posts starts.new.posts }
     ensures start_room { starts.old.room ≤ starts.new.room + 1 }
 {
-    let Some(old) = old else {
-        unreachable!();
-    };
     exchange_texts(texts, old.texts(), new.texts(), place);
     exchange_start(starts, old.start(), new.start(), place);
 }
@@ -95,7 +93,7 @@ fn exchange_values<A: Allocator + Copy>(
 fn take_values<A: Allocator + Copy>(
     texts: &mut Posts<A>,
     starts: &mut Posts<A>,
-    values: &Option<Values<A>>,
+    values: &Values<A>,
     place: u32,
 )
     ensures texts { KeepsOthers place texts.old.posts texts.new.posts }
@@ -103,9 +101,6 @@ fn take_values<A: Allocator + Copy>(
     ensures starts { KeepsOthers place starts.old.posts starts.new.posts }
     ensures start_room { starts.old.room ≤ starts.new.room }
 {
-    let Some(values) = values else {
-        return;
-    };
     take_texts(texts, values.texts(), place);
     take_start(starts, values.start(), place);
 }
@@ -140,7 +135,7 @@ impl<A: Allocator + Copy> Index<A> {
         Index {
             alloc,
             offset,
-            slots: Vec::new(alloc),
+            slots: SlotTable::new(alloc),
             steps: Posts::new(alloc),
             texts: Posts::new(alloc),
             starts: Posts::new(alloc),
@@ -207,10 +202,7 @@ impl<A: Allocator + Copy> Index<A> {
         steps.put(step_number(step.as_bytes()), place);
         put_texts(texts, values.texts(), place);
         put_start(starts, values.start(), place);
-        slots.push_reserved(StepSlot {
-            step,
-            values: Some(values),
-        });
+        slots.push(IndexedStep { step, values });
     }
 
     /// Stores the values of a step in place of those that it has, or else after those of the other steps. There must be
@@ -220,7 +212,7 @@ impl<A: Allocator + Copy> Index<A> {
         ensures offset { self.new.offset ≡ self.old.offset }
         ensures steps { self.new.steps ≡ put_values step values self.old.steps }
     {
-        let Some(at) = place_of(&self.steps, &self.slots, step) else {
+        let Some(place) = place_of(&self.steps, &self.slots, step) else {
             self.add(step, values);
             return;
         };
@@ -230,11 +222,11 @@ impl<A: Allocator + Copy> Index<A> {
             starts,
             ..
         } = self;
-        exchange_values(texts, starts, &slots[at].values, &values, at as u32);
-        slots[at] = StepSlot {
-            step,
-            values: Some(values),
+        let Some(indexed) = slots.get(place) else {
+            unreachable!();
         };
+        exchange_values(texts, starts, &indexed.values, &values, place);
+        slots.replace(place, IndexedStep { step, values });
     }
 
     /// Removes a step from the index.
@@ -250,13 +242,15 @@ impl<A: Allocator + Copy> Index<A> {
             starts,
             ..
         } = self;
-        let Some(at) = place_of(steps, slots, step) else {
+        let Some(place) = place_of(steps, slots, step) else {
             return;
         };
-        let place = at as u32;
-        take_values(texts, starts, &slots[at].values, place);
+        let Some(indexed) = slots.get(place) else {
+            unreachable!();
+        };
+        take_values(texts, starts, &indexed.values, place);
         steps.take(step_number(step.as_bytes()), place);
-        slots[at] = StepSlot { step, values: None };
+        slots.empty(place);
     }
 
     /// Returns the class of a query: the steps that have its first indexed key, each once, in order of creation. None if

@@ -7,6 +7,7 @@ mod exchanging;
 mod index;
 mod numbers;
 mod posts;
+mod slot_table;
 mod slots;
 mod storing;
 mod values;

@@ -1,5 +1,4 @@
-//! The steps of the index in order of creation, each in a slot that it keeps. The place of a slot is its index among
-//! all.
+//! The lookup of steps by posts, which lead to the places of their slots.
 
 ghost use Rattle.std.specs.Prelude.{◌≡◌, ◌≤◌, ◌<◌, ◌+◌, ◌++◌, ℕ, List, Some, true, false, length, map, max, take, Contains, IfOk, OnOk, MatchOption};
 ghost use Rattle.std.specs.Option.{option_to_list};
@@ -11,11 +10,13 @@ ghost use Rattle.ups_match.specs.Class.{first_view};
 ghost use Rattle.ups_index.specs.Kept.{text_view, in_class, HasNoneIn, IsSlot, StepsPosted};
 ghost use Rattle.ups_index.specs.Numbers.{text_number, step_number, moment_number};
 ghost use Rattle.ups_index.specs.Posts.{post, KeepsEach, KeepsOthers};
+ghost use Rattle.ups_index.specs.Slots.{seen_step};
 ghost use Rattle.ups_index.specs.Stored.{RowValues, has_first};
 
 use crate::numbers::{moment_number, step_number, text_number};
 use crate::posts::{Post, Posts};
-use crate::values::{StoredText, Values};
+use crate::slot_table::{IndexedStep, SlotTable};
+use crate::values::StoredText;
 use std::alloc::{AllocError, Allocator};
 use std::collections::btree_set;
 use ups_life::StepUid;
@@ -25,44 +26,27 @@ use ups_match::First;
 /// advance.
 const USUAL_PLACES: usize = 16;
 
-/// A step with its values, which are None once it is removed.
-#[derive(Drop)]
-pub(crate) struct StepSlot<A: Allocator + Copy> {
-    pub step: StepUid,
-    pub values: Option<Values<A>>,
-}
-
-/// Returns whether a slot is that of `step`, and the step is in the index.
-fn is_of<A: Allocator + Copy>(slot: &StepSlot<A>, step: StepUid) -> bool
-    ensures { MatchBool result ((values : RowValues) × (slot.now ≡ record { step = step; values = Some values })) ((values : RowValues) → slot.now ≡ record { step = step; values = Some values } → ⊥) }
+/// Returns whether the slot at a place has a step.
+fn is_slot_of<A: Allocator + Copy>(slots: &SlotTable<A>, place: u32, step: StepUid) -> bool
+    ensures { MatchBool result ((values : RowValues) × IsSlot slots.now.slots place step values) ((values : RowValues) → IsSlot slots.now.slots place step values → ⊥) }
 {
-    match &slot.values {
-        Some(_) => slot.step == step,
+    match slots.get(place) {
+        Some(indexed) => indexed.step == step,
         None => false,
     }
-}
-
-/// Returns whether the slot of a step is at a place.
-fn is_slot_of<A: Allocator + Copy>(slots: &[StepSlot<A>], place: usize, step: StepUid) -> bool
-    ensures { MatchBool result ((values : RowValues) × IsSlot slots.now place step values) ((values : RowValues) → IsSlot slots.now place step values → ⊥) }
-{
-    if place >= slots.len() {
-        return false;
-    }
-    is_of(&slots[place], step)
 }
 
 /// Returns the place of a step, if one of the posts leads to it.
 fn place_among<A: Allocator + Copy>(
     posts: &[Post],
-    slots: &[StepSlot<A>],
+    slots: &SlotTable<A>,
     step: StepUid,
-) -> Option<usize>
-    ensures { MatchOption result ((number place : ℕ) → (values : RowValues) → IsSlot slots.now place step values → Contains posts.now (post number place) → ⊥) (λ place. (values : RowValues) × IsSlot slots.now place step values) }
+) -> Option<u32>
+    ensures { MatchOption result ((number place : ℕ) → (values : RowValues) → IsSlot slots.now.slots place step values → Contains posts.now (post number place) → ⊥) (λ place. (values : RowValues) × IsSlot slots.now.slots place step values) }
 {
     for post in posts {
-        if is_slot_of(slots, post.place as usize, step) {
-            return Some(post.place as usize);
+        if is_slot_of(slots, post.place, step) {
+            return Some(post.place);
         }
     }
     None
@@ -71,14 +55,14 @@ fn place_among<A: Allocator + Copy>(
 /// Returns the place of a step, if one of a run of posts leads to it.
 fn place_in<A: Allocator + Copy>(
     run: btree_set::Range<'_, Post>,
-    slots: &[StepSlot<A>],
+    slots: &SlotTable<A>,
     step: StepUid,
-) -> Option<usize>
-    ensures { MatchOption result ((number place : ℕ) → (values : RowValues) → IsSlot slots.now place step values → Contains run.entry (post number place) → ⊥) (λ place. (values : RowValues) × IsSlot slots.now place step values) }
+) -> Option<u32>
+    ensures { MatchOption result ((number place : ℕ) → (values : RowValues) → IsSlot slots.now.slots place step values → Contains run.entry (post number place) → ⊥) (λ place. (values : RowValues) × IsSlot slots.now.slots place step values) }
 {
     for post in run {
-        if is_slot_of(slots, post.place as usize, step) {
-            return Some(post.place as usize);
+        if is_slot_of(slots, post.place, step) {
+            return Some(post.place);
         }
     }
     None
@@ -87,11 +71,11 @@ fn place_in<A: Allocator + Copy>(
 /// Returns the place of a step, if it is in the index.
 pub(crate) fn place_of<A: Allocator + Copy>(
     steps: &Posts<A>,
-    slots: &[StepSlot<A>],
+    slots: &SlotTable<A>,
     step: StepUid,
-) -> Option<usize>
-    requires { StepsPosted slots.now steps.now.posts }
-    ensures { MatchOption result ((place : ℕ) → (values : RowValues) → IsSlot slots.now place step values → ⊥) (λ place. (values : RowValues) × IsSlot slots.now place step values) }
+) -> Option<u32>
+    requires { StepsPosted slots.now.slots steps.now.posts }
+    ensures { MatchOption result ((place : ℕ) → (values : RowValues) → IsSlot slots.now.slots place step values → ⊥) (λ place. (values : RowValues) × IsSlot slots.now.slots place step values) }
 {
     let number = step_number(step.as_bytes());
     let (run, waiting) = steps.runs(number, number);
@@ -233,26 +217,20 @@ fn places_of<A: Allocator + Copy>(
     Ok(places)
 }
 
-/// Adds the step of a slot, if it has the first indexed key.
+/// Adds a step, if it has the first indexed key.
 ///
 /// Errors: if memory runs out.
 fn add_step<A: Allocator + Copy>(
     steps: &mut Vec<StepUid, A>,
-    slot: &StepSlot<A>,
+    indexed: &IndexedStep<A>,
     first: &First<'_>,
 ) -> Result<(), AllocError>
-    ensures { OnOk result (steps.new.items ≡ steps.old.items ++ option_to_list (in_class (first_view first.now) slot.now)) }
+    ensures { OnOk result (steps.new.items ≡ steps.old.items ++ option_to_list (in_class (first_view first.now) (Some (seen_step indexed.now)))) }
 {
-    match &slot.values {
-        Some(values) => {
-            if values.has(first) {
-                steps.push(slot.step)?;
-                return Ok(());
-            }
-            Ok(())
-        }
-        None => Ok(()),
+    if indexed.values.has(first) {
+        steps.push(indexed.step)?;
     }
+    Ok(())
 }
 
 /// Adds the step at a place, if it has the first indexed key and is not passed yet, and returns the place from which on
@@ -261,25 +239,27 @@ fn add_step<A: Allocator + Copy>(
 /// Errors: if memory runs out.
 fn visit<A: Allocator + Copy>(
     steps: &mut Vec<StepUid, A>,
-    slots: &[StepSlot<A>],
+    slots: &SlotTable<A>,
     next: usize,
     place: u32,
     first: &First<'_>,
 ) -> Result<usize, AllocError>
-    requires found { steps.old.items ≡ filter_map (in_class (first_view first.now)) (take next slots.now) }
-    requires none { HasNoneIn (first_view first.now) slots.now next place }
-    ensures found { IfOk result (λ next. steps.new.items ≡ filter_map (in_class (first_view first.now)) (take next slots.now)) }
+    requires found { steps.old.items ≡ filter_map (in_class (first_view first.now)) (take next slots.now.slots) }
+    requires none { HasNoneIn (first_view first.now) slots.now.slots next place }
+    ensures found { IfOk result (λ next. steps.new.items ≡ filter_map (in_class (first_view first.now)) (take next slots.now.slots)) }
     ensures next { IfOk result (λ passed. passed ≡ max next (place + 1)) }
 {
-    let place = place as usize;
-    if place < next {
+    let passed = place as usize + 1;
+    if passed <= next {
         return Ok(next);
     }
-    if place >= slots.len() {
-        return Ok(place + 1);
+    match slots.get(place) {
+        Some(indexed) => {
+            add_step(steps, indexed, first)?;
+            Ok(passed)
+        }
+        None => Ok(passed),
     }
-    add_step(steps, &slots[place], first)?;
-    Ok(place + 1)
 }
 
 /// Returns the steps that have the first indexed key, each of which is at one of the places.
@@ -287,13 +267,13 @@ fn visit<A: Allocator + Copy>(
 /// Errors: if memory runs out.
 fn steps_at<A: Allocator + Copy>(
     alloc: A,
-    slots: &[StepSlot<A>],
+    slots: &SlotTable<A>,
     places: &[u32],
     first: &First<'_>,
 ) -> Result<Vec<StepUid, A>, AllocError>
     requires sorted { IsNonDecreasing places.now }
-    requires has { (place : ℕ) → (step : List ℕ) → (values : RowValues) → IsSlot slots.now place step values → has_first (first_view first.now) values ≡ true → Contains places.now place }
-    ensures { IfOk result (λ steps. steps.items ≡ filter_map (in_class (first_view first.now)) slots.now) }
+    requires has { (place : ℕ) → (step : List ℕ) → (values : RowValues) → IsSlot slots.now.slots place step values → has_first (first_view first.now) values ≡ true → Contains places.now place }
+    ensures { IfOk result (λ steps. steps.items ≡ filter_map (in_class (first_view first.now)) slots.now.slots) }
 {
     let mut steps = Vec::with_capacity(alloc, places.len())?;
     let mut next = 0;
@@ -308,14 +288,14 @@ fn steps_at<A: Allocator + Copy>(
 /// Errors: if memory runs out.
 pub(crate) fn look_up<A: Allocator + Copy>(
     alloc: A,
-    slots: &[StepSlot<A>],
+    slots: &SlotTable<A>,
     table: &Posts<A>,
     low: u64,
     high: u64,
     first: &First<'_>,
 ) -> Result<Vec<StepUid, A>, AllocError>
-    requires { (place : ℕ) → (step : List ℕ) → (values : RowValues) → IsSlot slots.now place step values → has_first (first_view first.now) values ≡ true → (number : ℕ) × (low ≤ number) × (number ≤ high) × Contains table.now.posts (post number place) }
-    ensures { IfOk result (λ steps. steps.items ≡ filter_map (in_class (first_view first.now)) slots.now) }
+    requires { (place : ℕ) → (step : List ℕ) → (values : RowValues) → IsSlot slots.now.slots place step values → has_first (first_view first.now) values ≡ true → (number : ℕ) × (low ≤ number) × (number ≤ high) × Contains table.now.posts (post number place) }
+    ensures { IfOk result (λ steps. steps.items ≡ filter_map (in_class (first_view first.now)) slots.now.slots) }
 {
     let places = places_of(alloc, table, low, high)?;
     steps_at(alloc, slots, &places, first)

@@ -62,7 +62,8 @@ use Rattle.ups_steps.specs.contracts.steps.Steps as Steps
 use Rattle.ups_index.proofs.posts.Post.TheSendSync as post
 use Rattle.ups_index.specs.contracts.values.StoredText as StoredText
 use Rattle.ups_index.specs.contracts.values.Values as Values
-use Rattle.ups_index.specs.contracts.slots.StepSlot as IndexSlot
+use Rattle.ups_index.specs.contracts.slot_table.IndexedStep as IndexedStep
+use Rattle.ups_index.specs.contracts.slot_table.SlotTable as SlotTable
 use Rattle.ups_index.specs.contracts.posts.Posts as Posts
 use Rattle.ups_index.specs.contracts.index.Index as Index
 use Rattle.ups_tables.specs.contracts.tables.Tables as Tables
@@ -167,14 +168,17 @@ module _ (A : RattleType) (g : Allocator.Ghosts A.Denot) where
   Values-send : IsSend A → Frees g g.dealloc_token → IsSend (Values.the_field A g).row
   Values-send s f = let t = StoredText-send s f in search (sendable, over.crosses) depth 40
 
-  IndexSlot-send : IsSend A → Frees g g.dealloc_token → IsSend (IndexSlot.the_field A g).row
-  IndexSlot-send s f = let v = Values-send s f in let o : IsSend (Option.the_row (Values.the_row A g)) = search sendable depth 20 in search (sendable, leaves) depth 40
+  IndexedStep-send : IsSend A → Frees g g.dealloc_token → IsSend (IndexedStep.the_field A g).row
+  IndexedStep-send s f = let v = Values-send s f in search (sendable, leaves) depth 40
+
+  SlotTable-send : IsSend A → Frees g g.dealloc_token → IsSend (SlotTable.the_field A g).row
+  SlotTable-send s f = let i = IndexedStep-send s f in search (sendable, maps.crosses, leaves) depth 40
 
   Posts-send : IsSend A → Frees g g.dealloc_token → IsSend (Posts.the_field A g).row
   Posts-send s f = search (sendable, over.crosses, maps.BTreeSet-send, leaves) depth 40
 
   Index-send : IsSend A → Frees g g.dealloc_token → IsSend (Index.the_field A g).row
-  Index-send s f = let l = IndexSlot-send s f in let p = Posts-send s f in search (sendable, over.crosses) depth 40
+  Index-send s f = let l = SlotTable-send s f in let p = Posts-send s f in search (sendable, over.crosses) depth 40
 
 -- THE MANAGER
 

@@ -1,14 +1,12 @@
-use Rattle.std.proofs.Common.{ℕ, ℤ, ◌+◌, ◌≤◌, List, Option, IfSome, sym, subst}
+use Rattle.std.proofs.Common.{ℕ, ℤ, ◌+◌, ◌≤◌, List, Option, sym, subst}
 use Rattle.ups_dataset.specs.declared.tag.Tag.{Tag}
 use Rattle.ups_index.specs.Posts.{HasTexts, HasStart}
-use Rattle.ups_index.specs.Stored.{RowValues}
 use Rattle.ups_index.proofs.Room.{viewed_len}
 use Rattle.ups_index.proofs.index.exchange_values.Goals as goal
 
 pub exchange_texts-requires-clause-posted : goal.exchange_texts-requires-clause-posted
 exchange_texts-requires-clause-posted g c =
-    let had = subst (λ (o : Option RowValues). IfSome o (λ v. HasTexts v.texts c.args.place c.args.texts.now.posts)) c.in-Some.is c.requires.texts in
-    subst (λ (t : List (Tag × List ℕ)). HasTexts t c.args.place c.args.texts.now.posts) (sym c.texts.ensures) had
+    subst (λ (t : List (Tag × List ℕ)). HasTexts t c.args.place c.args.texts.now.posts) (sym c.texts.ensures) c.requires.texts
 
 pub exchange_texts-requires-clause-room : goal.exchange_texts-requires-clause-room
 exchange_texts-requires-clause-room g c =
@@ -16,8 +14,7 @@ exchange_texts-requires-clause-room g c =
 
 pub exchange_start-requires-clause-posted : goal.exchange_start-requires-clause-posted
 exchange_start-requires-clause-posted g c =
-    let had = subst (λ (o : Option RowValues). IfSome o (λ v. HasStart v.start c.args.place c.args.starts.now.posts)) c.in-Some.is c.requires.starts in
-    subst (λ (o : Option ℤ). HasStart o c.args.place c.args.starts.now.posts) (sym c.start.ensures) had
+    subst (λ (o : Option ℤ). HasStart o c.args.place c.args.starts.now.posts) (sym c.start.ensures) c.requires.starts
 
 pub exchange_start-requires-clause-room : goal.exchange_start-requires-clause-room
 exchange_start-requires-clause-room g c = c.requires.start_room
