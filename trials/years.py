@@ -18,8 +18,9 @@ while a watcher is 400 reports of progress behind. The server has the environmen
 hold:
 
     requests   each one is accepted
-    memory     the most that is resident in the last twentieth of the way is at most 1.2 times the most in the twentieth before a
-               tenth, and 200 bytes for each step since, whose UID stays used; it is told and not judged below 100,000 requests
+    memory     the most that is resident in the last tenth of the way is at most 1.2 times the most around the end of the first
+               one (from a twentieth before it to a twentieth behind), and 200 bytes for each step since, whose UID stays used; it
+               is told and not judged below 100,000 requests
     N-GET      takes 250 ms at most (--longest) on an association that asks for a step that is held every few milliseconds, and for
                nothing else but a C-ECHO, which the service does not see: what that takes is told, since a busy machine delays both
     EVERY, SINGLE  have each progress of their steps and the completion once and in order, with the content of the request. The two
@@ -32,7 +33,7 @@ hold:
     worklist   a C-FIND finds the steps that are held, as they are, and no other
     log        it has no error, tells of no lack of memory, and that AWAY was away and is back
     restart    with --store the server is killed in the end, and started on its store as it is, and then with --compact: the worklist
-               is the same, the UIDs stay used, and it takes no more memory than the server did in the last twentieth and after
+               is the same, the UIDs stay used, and it takes no more memory than the server did in the last tenth and after
 
 It ends by itself; 3,000,000 requests take some minutes. It prints a line for each tenth of the way and for each check, and then
 `years: N passed, M failed`. The status is 1 if any failed.
@@ -411,10 +412,10 @@ def greatest(samples: Samples, least: float, most: float) -> int:
 
 
 def judge_memory(samples: Samples, entries: int, counts: Counts, results: Results) -> None:
-    early, late = greatest(samples, entries / 20, entries / 10), greatest(samples, entries * 19 / 20, samples[-1][0])
+    early, late = greatest(samples, entries / 20, entries * 3 / 20), greatest(samples, entries * 9 / 10, samples[-1][0])
     steps = sum(counts.lives)
     most = GROWTH * early + USED * steps * 9 / 10
-    name = f"memory: {early / 1e6:,.1f} MB at {entries // 10:,} requests, {late / 1e6:,.1f} MB at {samples[-1][0]:,}, with {steps:,} steps"
+    name = f"memory: {early / 1e6:,.1f} MB around {entries // 10:,} requests, {late / 1e6:,.1f} MB up to {samples[-1][0]:,}, with {steps:,} steps"
     if entries < JUDGED:
         print(f"    {name}", flush=True)
     else:
@@ -510,14 +511,14 @@ def judge_log(log: list[str], results: Results) -> None:
 # the trial
 
 def spend(server: Server, watchers: list[Watcher], given: argparse.Namespace, counts: Counts, results: Results) -> int:
-    """Spends the years, judges them, and returns the most memory from the last twentieth of the way on."""
+    """Spends the years, judges them, and returns the most memory from the last tenth of the way on."""
     client = Client(server.port)
     begin(client, counts)
     over, (here, there) = multiprocessing.Event(), multiprocessing.Pipe()
     multiprocessing.Process(target=look, args=(server.port, over, there), daemon=True).start()
     client.release()
     samples = go(server, given.entries, given.rate, counts, results)
-    late = greatest(samples, given.entries * 19 / 20, samples[-1][0])
+    late = greatest(samples, given.entries * 9 / 10, samples[-1][0])
     if results.failed:
         return late
     judge_memory(samples, given.entries, counts, results)
