@@ -67,6 +67,7 @@ OPTIONS = {"keep": "keep", "offset": "offset", "associations": "workers", "idle"
 STATUS_FILE = "crates/ups_cycle/src/status.rt"
 MAN_PAGE = "packaging/man/upsd.8"
 CLIENT = "examples/ups.py"
+SHARED = {"LONGEST": "longest_pdu", "VERSION": "version"}  # the constants of the client that are also the server's
 PAGE = "planted.md"  # of the self-test
 FOR_USERS = ("docs/use/", "README.md", PAGE)  # pages in which each option without a command is one of the program or the client
 VERSION_NAMES = {  # where the implementation version name stands, and how
@@ -218,7 +219,7 @@ def faults_of_man_page(files: Texts) -> Iterator[str]:
 
 
 def faults_of_client(files: Texts, codes: set[int], values: dict[str, Value]) -> Iterator[str]:
-    """Yields the faults of the client of the examples: of its statuses, its longest PDU and its help."""
+    """Yields the faults of the client of the examples: of its statuses, its longest PDU, its version and its help."""
     has_statuses = False
     clients = {path: ast.walk(ast.parse(text)) for path, text in files.items() if path.endswith(".py")}
     for path, node in ((path, node) for path, nodes in clients.items() for node in nodes):
@@ -228,9 +229,9 @@ def faults_of_client(files: Texts, codes: set[int], values: dict[str, Value]) ->
             has_statuses |= is_of_statuses
             for code in sorted(told ^ (codes - {PENDING})) if is_of_statuses else ():
                 yield f"{path}:{node.lineno}: the status {code:04X} {'is none of the server' if code in told else 'has no text'}"
-        elif isinstance(node, ast.Assign) and ast.unparse(node.targets[0]) == "LONGEST":
-            if ast.literal_eval(node.value) != values.get("longest_pdu"):
-                yield f"{path}:{node.lineno}: LONGEST is {ast.unparse(node.value)}, and {values.get('longest_pdu')} at the server"
+        elif isinstance(node, ast.Assign) and (fact := SHARED.get(ast.unparse(node.targets[0]))):
+            if ast.literal_eval(node.value) != values.get(fact):
+                yield f"{path}:{node.lineno}: {ast.unparse(node)}, and {values.get(fact)} at the server"
         elif isinstance(node, ast.Call) and ast.unparse(node.func).endswith(".add_argument"):
             yield from faults_of_option(path, node, values)
     if not has_statuses:
@@ -384,6 +385,7 @@ IN_PAGE = {  # what is spoiled in it: a pattern and its replacement
 IN_CLIENT = {
     "a status": ("0xC311:", "0xC312:"), "a default": (r'("--host", default="[0-9.]*)"', r'\g<1>1"'),
     "a help text": (r"port \(\d+\)", "port (1)"), "the longest PDU": (r"LONGEST = [\d_]+", "LONGEST = 1"),
+    "the version": (r'VERSION = "[\d.]+"', 'VERSION = "9.9"'),
     "an option that pages name": (r'"--claimed", ', '"--held", '), "a command that pages name": (r'add\("claim"', 'add("hold"'),
 }
 IN_MAN_PAGE = {

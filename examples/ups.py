@@ -33,7 +33,7 @@ UPS_TOKEN; without it the board answers 403. It needs Python 3.9 and pydicom (ap
 The exit status is 0 where the server answers with success or a warning, 1 where it answers with a failure, and 2 where there is
 no answer, or where what is asked can't be sent. That of `import` and `export` is 1 if a step was refused or could not be
 written, that of `work` 1 if a step was canceled, and 3 if there was none to do; `health` and `status --nagios` have those of a
-monitoring plugin.
+monitoring plugin. It is 130 at an interrupt, and 141 where nobody reads the output any more.
 """
 
 from __future__ import annotations
@@ -48,6 +48,7 @@ import functools
 import heapq
 import hmac
 import http.server
+import ipaddress
 import itertools
 import json
 import math
@@ -69,7 +70,7 @@ import uuid
 import warnings
 import xml.etree.ElementTree as ElementTree
 from html import escape
-from typing import Any, Callable, Iterable, Iterator, NamedTuple, Optional
+from typing import Any, Callable, Iterable, Iterator, NamedTuple, NoReturn, Optional, Union
 
 try:
     from pydicom import dcmread
@@ -80,9 +81,11 @@ try:
     from pydicom.filereader import read_dataset
     from pydicom.filewriter import write_dataset
 except ImportError:
-    sys.exit("ups: pydicom is missing for this Python: Debian has it for /usr/bin/python3 as python3-pydicom")
+    print("ups: pydicom is missing for this Python: Debian has it for /usr/bin/python3 as python3-pydicom", file=sys.stderr)
+    sys.exit(3 if "--nagios" in sys.argv or sys.argv[1:2] == ["health"] else 2)
 
 NAME = os.path.basename(sys.argv[0]) or "ups"
+VERSION = "0.2.0"
 
 VERIFICATION = "1.2.840.10008.1.1"
 PUSH = "1.2.840.10008.5.1.4.34.6.1"
@@ -96,6 +99,11 @@ IMPLICIT = "1.2.840.10008.1.2"
 APPLICATION_CONTEXT = "1.2.840.10008.3.1.1.1"
 IMPLEMENTATION = "2.25.7002"
 LONGEST = 16_384  # bytes of the longest P-DATA-TF that this side receives or sends
+MOST_TAKEN = 2_097_152  # bytes of the longest command set or data set that this side receives
+MOST_CONTEXTS = 128  # presentation contexts of an association: their IDs are the odd numbers of a byte (PS3.8 section 9.3.2.2)
+LONGEST_WAIT = 1_000_000  # seconds of a time limit
+LONGEST_LINE = 1_000  # characters of a line about a fault, which may have words of a peer
+AT_ONCE = 8  # associations that `board` and `work` take at once; a server has one for each watcher
 UTF_8 = "ISO_IR 192"
 NUMBERS = {"SL", "SS", "UL", "US"}
 CHARACTER_SET, PADDING = 0x0008_0005, 0xFFFC_FFFC  # the tags of Specific Character Set and Data Set Trailing Padding
@@ -152,6 +160,14 @@ class Unwritable(Refused):
     """A data set that JSON has no form for."""
 
 
+class Over(Refused):
+    """The end of an association by its peer, or by a rejection, behind which no A-ABORT is sent."""
+
+
+class Broken(Over):
+    """The end of a connection."""
+
+
 def item(kind: int, content: bytes) -> bytes:
     return struct.pack(">BBH", kind, 0, len(content)) + content
 
@@ -191,22 +207,60 @@ def spelled(given: Dataset, implicit: bool) -> bytes:
 
 def read(found: bytes, implicit: bool) -> Dataset:
     """Reads a data set, with texts in UTF-8 if it names no character set. (An event report never names one.)"""
-    return read_dataset(DicomBytesIO(found), implicit, True, parent_encoding="utf8")
+    try:
+        return read_dataset(DicomBytesIO(found), implicit, True, parent_encoding="utf8")
+    except Exception as fault:  # pydicom raises exceptions of many classes, and further ones where a value is looked at
+        raise Refused(f"a data set that can't be read: {fault}") from None
 
 
 def command_set(elements: dict[str, Any]) -> bytes:
     """Returns a command set (PS3.7 section 6.3.1) of these elements by keyword: UIDs and numbers of two bytes."""
     spelled_out = b""
     for tag, value in sorted((tag_for_keyword(keyword) or 0, value) for keyword, value in elements.items()):
-        content = struct.pack("<H", value) if isinstance(value, int) else (value + "\0" * (len(value) % 2)).encode()
+        content = struct.pack("<H", value) if isinstance(value, int) else value.encode(errors="surrogateescape")
+        content += b"\0" * (len(content) % 2)
         spelled_out += struct.pack("<HHI", 0, tag, len(content)) + content
     return struct.pack("<HHII", 0, 0, 4, len(spelled_out)) + spelled_out
 
 
-@functools.lru_cache(maxsize=64)
-def command_of(found: bytes) -> Dataset:
-    """Reads a command set. The result is cached, as all responses to a query but the last are the same."""
+def whole_command(found: bytes) -> Dataset:
+    """Reads a command set. Raises Refused if the lengths of its elements do not fit it, which pydicom takes."""
+    at = 0
+    while at < len(found):
+        at += 8 + unpacked("<I", found[at + 4 : at + 8])[0]
+    if at > len(found):
+        raise Refused("a command set that is cut off")
     return read(found, True)
+
+
+usual_command = functools.lru_cache(maxsize=64)(whole_command)
+
+
+def command_of(found: bytes) -> Dataset:
+    """Reads a command set. That of a usual length is cached, as all responses to a query but the last are the same."""
+    return usual_command(found) if len(found) <= 512 else whole_command(found)
+
+
+def number_of_command(command: Dataset, keyword: str) -> int:
+    """Returns a number of a command set. Raises Refused if the command set has none there."""
+    try:
+        number = command.get(keyword)
+    except Exception:  # pydicom raises exceptions of many classes
+        raise Refused(f"a command set whose {keyword} can't be read") from None
+    if not isinstance(number, int):
+        raise Refused(f"a command set without {keyword}")
+    return number
+
+
+def uid_of_command(command: Dataset, keyword: str) -> str:
+    """Returns a UID of a command set. Raises Refused if the command set has none there."""
+    try:
+        uid = str(command.get(keyword) or "")
+    except Exception:  # pydicom raises exceptions of many classes
+        raise Refused(f"a command set whose {keyword} can't be read") from None
+    if not re.fullmatch(r"[0-9.]{1,64}", uid, re.ASCII):
+        raise Refused(f"a command set whose {keyword} is no UID: {uid[:64]!r}")
+    return uid
 
 
 EVENT_ROLE = item(0x54, struct.pack(">H", len(EVENT)) + EVENT.encode() + bytes([0, 1]))  # the acceptor is the SCU of UPS Event
@@ -224,24 +278,50 @@ def made(attributes: dict[str, Any]) -> Dataset:
 class Association:
     """An association, as requestor or acceptor (PS3.8). Its messages are command sets and data sets (PS3.7)."""
 
-    def __init__(self, connection: socket.socket, implicit: bool = False) -> None:
-        self.connection = connection
-        self.implicit = implicit
-        self.syntax = IMPLICIT if implicit else EXPLICIT
-        self.received, self.at = b"", 0
+    def __init__(self, connection: socket.socket, asked: argparse.Namespace) -> None:
+        self.connection, self.patience = connection, asked.timeout
+        self.implicit = asked.implicit
+        self.syntax = IMPLICIT if asked.implicit else EXPLICIT
+        self.received, self.at = bytearray(), 0
         self.contexts: dict[str, int] = {}
+        self.accepted: set[int] = set()
         self.longest = LONGEST
         self.fragments: Iterator[tuple[int, int, bytes]] = iter(())
         self.numbers = itertools.count(1)
+        self.wait_anew()
+
+    def wait_anew(self) -> None:
+        """Gives the peer as many seconds again for what comes next, in however many pieces."""
+        self.deadline = time.monotonic() + self.patience
+
+    def send_pdu(self, kind: int, body: bytes) -> None:
+        try:
+            self.connection.settimeout(self.patience)
+            self.connection.sendall(pdu(kind, body))
+        except OSError as fault:
+            raise Broken(fault.strerror or str(fault)) from None
+        self.wait_anew()
+
+    def receive(self) -> None:
+        """Receives what there is. Raises Broken if what is awaited isn't there in time."""
+        if (left := self.deadline - time.monotonic()) <= 0:
+            raise Broken("timed out")
+        try:
+            self.connection.settimeout(left)
+            more = self.connection.recv(1 << 16)
+        except OSError as fault:
+            raise Broken(fault.strerror or str(fault)) from None
+        if not more:
+            raise Broken("the connection was closed")
+        del self.received[: self.at]
+        self.received += more
+        self.at = 0
 
     def take(self, count: int) -> bytes:
         while len(self.received) - self.at < count:
-            more = self.connection.recv(1 << 16)
-            if not more:
-                raise Refused("the connection was closed")
-            self.received, self.at = self.received[self.at :] + more, 0
+            self.receive()
         self.at += count
-        return self.received[self.at - count : self.at]
+        return bytes(self.received[self.at - count : self.at])
 
     def pdu(self) -> tuple[int, bytes]:
         kind, _, length = unpacked(">BBI", self.take(6))
@@ -251,8 +331,24 @@ class Association:
         if kind in (ABORT, ASSOCIATE_RJ) and length != 4:
             raise Refused(f"a PDU of type {kind:02X} with {length} bytes")
         if kind == ABORT:
-            raise Refused(f"the association was aborted (source {body[2]}, reason {body[3]})")
+            raise Over(f"the association was aborted (source {body[2]}, reason {body[3]})")
         return kind, body
+
+    def end(self, last: bytes) -> None:
+        """Sends a last PDU, and drops what comes for a second: bytes that nobody reads would take the PDU from the peer."""
+        deadline = time.monotonic() + 1
+        with contextlib.suppress(OSError):
+            self.connection.settimeout(1)
+            self.connection.sendall(last)
+            self.connection.shutdown(socket.SHUT_WR)
+            while (left := deadline - time.monotonic()) > 0:
+                self.connection.settimeout(left)
+                if not self.connection.recv(1 << 16):
+                    return
+
+    def abort(self) -> None:
+        """Ends the association by an A-ABORT of this side (PS3.8 section 9.3.8)."""
+        self.end(pdu(ABORT, bytes(4)))
 
     def propose(self, called: str, calling: str, classes: list[str], syntaxes: tuple[str, ...] = (), roles: bytes = b"") -> None:
         """Requests an association, with these transfer syntaxes (default: that of this side) and role selections."""
@@ -263,14 +359,14 @@ class Association:
             self.contexts[each] = 2 * place + 1
             body += item(0x20, bytes([2 * place + 1, 0, 0, 0]) + item(0x30, each.encode()) + offered)
         body += item(0x50, item(0x51, struct.pack(">I", LONGEST)) + item(0x52, IMPLEMENTATION.encode()) + roles)
-        self.connection.sendall(pdu(ASSOCIATE_RQ, body))
+        self.send_pdu(ASSOCIATE_RQ, body)
         kind, answer = self.pdu()
         if kind == ASSOCIATE_RJ:
-            raise Refused(f"the association was rejected (result {answer[1]}, source {answer[2]}, reason {answer[3]})")
+            raise Over(f"the association was rejected (result {answer[1]}, source {answer[2]}, reason {answer[3]})")
         if kind != ASSOCIATE_AC:
             raise Refused(f"the association was answered with a PDU of type {kind:02X}")
         self.longest = longest_of(answer)
-        results = {content[0]: content for number, content in items(answer[68:]) if number == 0x21}
+        results = {content[0]: content for content in contexts_of(answer, 0x21)}
         for each, context in self.contexts.items():
             if context not in results or results[context][2]:
                 raise Refused(f"the presentation context of {each} was not accepted")
@@ -279,14 +375,20 @@ class Association:
     def accept(self, asked: bytes) -> None:
         """Accepts each presentation context of UPS Event in this side's transfer syntax, as its SCU, and no other."""
         self.longest = longest_of(asked)
-        answers = b""
-        for number, content in items(asked[68:]):
-            if number == 0x20:
-                words = list(items(content[4:]))
-                is_event = (0x30, EVENT.encode()) in words and (0x40, self.syntax.encode()) in words
-                answers += item(0x21, bytes([content[0], 0, 0 if is_event else 3, 0]) + item(0x40, self.syntax.encode()))
+        answers = []
+        for content in contexts_of(asked, 0x20):
+            words = list(items(content[4:]))
+            is_event = (0x30, EVENT.encode()) in words and (0x40, self.syntax.encode()) in words
+            if is_event:
+                self.accepted.add(content[0])
+            answers.append(item(0x21, bytes([content[0], 0, 0 if is_event else 3, 0]) + item(0x40, self.syntax.encode())))
         more = item(0x50, item(0x51, struct.pack(">I", LONGEST)) + item(0x52, IMPLEMENTATION.encode()) + EVENT_ROLE)
-        self.connection.sendall(pdu(ASSOCIATE_AC, asked[:68] + item(0x10, APPLICATION_CONTEXT.encode()) + answers + more))
+        self.send_pdu(ASSOCIATE_AC, asked[:68] + item(0x10, APPLICATION_CONTEXT.encode()) + b"".join(answers) + more)
+
+    def reject(self, reason: int, why: str) -> NoReturn:
+        """Rejects the association for good, as its user (PS3.8 section 9.3.4), and raises Over."""
+        self.end(pdu(ASSOCIATE_RJ, bytes([0, 1, 1, reason])))
+        raise Over(f"{why}: rejected (result 1, source 1, reason {reason})")
 
     def send(self, context: int, elements: dict[str, Any], given: Optional[Dataset] = None) -> None:
         command = command_set({**elements, "CommandDataSetType": 0x0101 if given is None else 1})
@@ -300,36 +402,47 @@ class Association:
         pieces = [part[at : at + size] for at in range(0, len(part), size)] or [b""]
         for place, piece in enumerate(pieces):
             last = 2 if place == len(pieces) - 1 else 0
-            self.connection.sendall(pdu(P_DATA_TF, struct.pack(">IBB", len(piece) + 2, context, control | last) + piece))
+            self.send_pdu(P_DATA_TF, struct.pack(">IBB", len(piece) + 2, context, control | last) + piece)
 
-    def part(self) -> Optional[tuple[int, bytes]]:
-        """Receives a command set or a data set: the presentation context ID and the bytes; None if the peer releases."""
-        whole, context = b"", 0
+    def part(self, kind_of_part: int) -> Optional[tuple[int, bytes]]:
+        """Receives a command set (1) or a data set (0), MOST_TAKEN bytes at most: the presentation context ID and the bytes; None
+        if the peer releases."""
+        whole = bytearray()
+        contexts: set[int] = set()
         while True:
             for context, control, piece in self.fragments:
+                contexts.add(context)
+                if control & 1 != kind_of_part or len(contexts) > 1:
+                    raise Refused("fragments of different messages in one another")
                 whole += piece
+                if len(whole) > MOST_TAKEN:
+                    raise Refused(f"a message of more than {MOST_TAKEN:,} bytes")
                 if control & 2:
-                    return context, whole
+                    return context, bytes(whole)
             kind, body = self.pdu()
-            if kind == RELEASE_RQ:
-                self.connection.sendall(pdu(RELEASE_RP, bytes(4)))
+            if kind == RELEASE_RQ and not contexts:
+                self.send_pdu(RELEASE_RP, bytes(4))
                 return None
             if kind != P_DATA_TF:
-                raise Refused(f"a PDU of type {kind:02X} instead of an answer")
+                raise Refused(f"a PDU of type {kind:02X} in the place of a message")
             self.fragments = fragments(body)
 
     def message(self) -> Optional[tuple[int, Dataset, Optional[bytes]]]:
         """Receives a message: the presentation context ID, the command set and the data set, if any; None if the peer releases."""
-        found = self.part()
+        self.wait_anew()
+        found = self.part(1)
         if found is None:
             return None
-        command = command_of(found[1])
-        if command.CommandDataSetType == 0x0101:
-            return found[0], command, None
-        data = self.part()
+        context, content = found
+        command = command_of(content)
+        if number_of_command(command, "CommandDataSetType") == 0x0101:
+            return context, command, None
+        data = self.part(0)
         if data is None:
-            raise Refused("a release instead of a data set")
-        return found[0], command, data[1]
+            raise Refused("a release in the place of a data set")
+        if data[0] != context:
+            raise Refused("a data set on another presentation context than its command set")
+        return context, command, data[1]
 
     def answers(self, context: str, elements: dict[str, Any],
                 given: Optional[Dataset] = None) -> Iterator[tuple[Dataset, Optional[bytes]]]:
@@ -338,9 +451,10 @@ class Association:
         while True:
             answer = self.message()
             if answer is None:
-                raise Refused("a release instead of a response")
+                raise Over("a release in the place of a response")
+            status = number_of_command(answer[1], "Status")
             yield answer[1], answer[2]
-            if answer[1].Status not in PENDING:
+            if status not in PENDING:
                 return
 
     def ask(self, context: str, elements: dict[str, Any],
@@ -350,27 +464,47 @@ class Association:
         return [(command, None if data is None else read(data, self.implicit)) for command, data in answers]
 
     def release(self) -> None:
-        self.connection.sendall(pdu(RELEASE_RQ, bytes(4)))
+        self.send_pdu(RELEASE_RQ, bytes(4))
         self.pdu()
+
+
+@contextlib.contextmanager
+def connected(host: str, port: int, asked: argparse.Namespace) -> Iterator[Association]:
+    """Yields a connection for an association, which ends by an A-ABORT if its peer sends what can't be read."""
+    try:
+        connection = socket.create_connection((host, port), asked.timeout)
+    except OSError as fault:
+        raise Refused(f"{host}:{port}: {fault.strerror or fault}") from None
+    except UnicodeError:
+        raise Refused(f"{host!r} is no name of a host") from None
+    with connection:
+        connection.setsockopt(socket.IPPROTO_TCP, socket.TCP_NODELAY, 1)
+        association = Association(connection, asked)
+        try:
+            yield association
+        except Broken as fault:
+            raise Over(f"{host}:{port}: {fault}") from None
+        except Refused as fault:
+            if not isinstance(fault, Over):
+                association.abort()
+            raise
 
 
 @contextlib.contextmanager
 def associated(asked: argparse.Namespace, classes: list[str]) -> Iterator[Association]:
     """Yields an association with the server, and releases it at the end."""
-    with socket.create_connection((asked.host, asked.port), asked.timeout) as connection:
-        connection.setsockopt(socket.IPPROTO_TCP, socket.TCP_NODELAY, 1)
-        association = Association(connection, asked.implicit)
+    with connected(asked.host, asked.port, asked) as association:
         association.propose(asked.called, asked.ae, classes)
         yield association
         association.release()
 
 
 def unpacked(form: str, text: bytes) -> tuple[Any, ...]:
-    """Unpacks numbers of a PDU. Raises Refused if there are too few bytes for them."""
+    """Unpacks numbers. Raises Refused if there are too few bytes for them."""
     try:
         return struct.unpack(form, text)
     except struct.error:
-        raise Refused("a PDU whose lengths do not fit its bytes") from None
+        raise Refused("lengths that do not fit the bytes") from None
 
 
 def longest_of(associate: bytes) -> int:
@@ -382,24 +516,52 @@ def longest_of(associate: bytes) -> int:
     return min(most, LONGEST)
 
 
+def contexts_of(associate: bytes, kind: int) -> list[bytes]:
+    """Returns the presentation context items of an associate PDU, or those with the results of its answer."""
+    found = [content for number, content in items(associate[68:]) if number == kind]
+    if len(found) > MOST_CONTEXTS or any(len(content) < 4 for content in found):
+        raise Refused("presentation contexts that can't be read")
+    return found
+
+
 def items(text: bytes) -> Iterator[tuple[int, bytes]]:
     """Yields the type and the content of each item of an associate PDU, or of one of its items."""
-    while text:
-        kind, _, length = unpacked(">BBH", text[:4])
-        yield kind, text[4 : 4 + length]
-        text = text[4 + length :]
+    at = 0
+    while at < len(text):
+        kind, _, length = unpacked(">BBH", text[at : at + 4])
+        at += 4 + length
+        if at > len(text):
+            raise Refused("an item that is longer than its PDU")
+        yield kind, text[at - length : at]
 
 
 def fragments(body: bytes) -> Iterator[tuple[int, int, bytes]]:
     """Yields the PDVs of a P-DATA-TF: presentation context ID, message control header, fragment."""
-    while body:
-        length, context, control = unpacked(">IBB", body[:6])
-        yield context, control, body[6 : 4 + length]
-        body = body[4 + length :]
+    at = 0
+    while at < len(body):
+        length, context, control = unpacked(">IBB", body[at : at + 6])
+        at += 4 + length
+        if length < 2 or at > len(body):
+            raise Refused(f"a PDV of {length:,} bytes, which does not fit its PDU")
+        yield context, control, body[at + 2 - length : at]
 
 
-def now() -> str:
-    return datetime.datetime.now().strftime("%Y%m%d%H%M%S")
+def moment_now() -> str:
+    """Returns this moment as a DT with its offset."""
+    return datetime.datetime.now().astimezone().strftime("%Y%m%d%H%M%S%z")
+
+
+def printable(text: str) -> str:
+    """Returns a text of a peer for a line: what isn't printable is escaped, and so neither ends the line nor moves the cursor."""
+    if text.isprintable():
+        return text
+    return "".join(it if it.isprintable() else it.encode("unicode_escape").decode() for it in text)
+
+
+def complain(text: str) -> None:
+    """Prints a line on standard error, with the moment, if anybody reads it."""
+    with contextlib.suppress(OSError):
+        print(f"{moment_now()} {printable(text[:LONGEST_LINE])}", file=sys.stderr, flush=True)
 
 
 def tag_of(name: str) -> int:
@@ -603,7 +765,7 @@ def create(association: Association, asked: argparse.Namespace) -> int:
     given = {"PatientName": asked.patient_name, "PatientID": asked.patient_id, "WorklistLabel": asked.worklist,
              "ScheduledProcedureStepStartDateTime": asked.start, "InputReadinessState": asked.readiness,
              "ScheduledProcedureStepPriority": asked.priority, "ProcedureStepLabel": asked.label}
-    defaults = {**NEW, "ScheduledProcedureStepStartDateTime": now()}
+    defaults = {**NEW, "ScheduledProcedureStepStartDateTime": moment_now()}
     for keyword, value in given.items():
         if value or keyword in defaults and not step.get(keyword):
             setattr(step, keyword, value or defaults[keyword])
@@ -764,11 +926,6 @@ def set_attributes(association: Association, asked: argparse.Namespace) -> int:
 UNSPECIFIED = {"CodeValue": "110513", "CodingSchemeDesignator": "DCM", "CodeMeaning": "Discontinued for unspecified reason"}
 
 
-def moment_now() -> str:
-    """Returns this moment as a DT with its offset."""
-    return datetime.datetime.now().astimezone().strftime("%Y%m%d%H%M%S%z")
-
-
 def only_item(step: Dataset, keyword: str) -> Dataset:
     """Returns the first item of a sequence, a new one if there is none."""
     found = step.get(keyword)
@@ -863,6 +1020,7 @@ def suspend(association: Association, asked: argparse.Namespace) -> int:
 
 TAKEN = (0xC300, 0xC302, GONE)  # another performer was quicker, or the step was canceled
 NO_STEP = 3  # the exit status of `work` if there is nothing to do
+MOST_REASON = 1_024  # characters of the reason of a request to cancel that the step gets
 
 
 class Claimed(NamedTuple):
@@ -955,28 +1113,18 @@ class Performer:
         """Takes reports from now on, if a port is given; subscriptions of an earlier performer of this title are ended."""
         if self.asked.listen is None:
             return
-        listener = socket.create_server((self.asked.address, self.asked.listen))
-        threading.Thread(target=self.accept, args=(listener,), daemon=True).start()
+        take_in_threads(listener_of(self.asked), self.asked, lambda _, command, data: self.report(command, data))
         if not is_done(status := self.subscribe(4, GLOBAL)):
             raise Refused(f"as a watcher: {told(status)}")
 
-    def accept(self, listener: socket.socket) -> None:
-        while True:
-            connection, _ = listener.accept()
-            threading.Thread(target=self.take, args=(connection,), daemon=True).start()
-
-    def take(self, connection: socket.socket) -> None:
-        connection.settimeout(self.asked.timeout)
-        with connection, contextlib.suppress(OSError, Refused, struct.error):
-            take_reports(Association(connection, self.asked.implicit), self.report)
-
     def report(self, command: Dataset, data: Optional[bytes]) -> None:
-        """Ends the command if a report says that its step is to be canceled (PS3.4 section CC.2.4, event 2)."""
+        """Ends the command if a report says that its step is to be canceled (PS3.4 section CC.2.4, event 2). Nothing at the server
+        shows that somebody asked (section CC.2.2), so that the report alone says so."""
         if command.EventTypeID == 2 and str(command.AffectedSOPInstanceUID) == self.held:
-            reason = value_at(plain(data or b"", self.asked.implicit), 0x0074_1238)
+            reason = value_at(plain(data or b"", self.asked.implicit), 0x0074_1238)[:MOST_REASON]
             self.request = f"asked for{reason and f', {reason}'}"
-            if self.process is not None:
-                self.process.terminate()
+            if (process := self.process) is not None:
+                process.terminate()
 
     def stop(self, *_: Any) -> None:
         """Ends the command, so that its step is canceled, and takes no further step."""
@@ -1003,7 +1151,8 @@ class Performer:
     def finish(self, held: Claimed, why: str) -> int:
         """Completes a step, or cancels it for a reason; tries again while the server is not there."""
         station, begin = self.asked.as_station or self.asked.ae, time.monotonic()
-        needed = functools.partial(canceled, reason=why) if why else functools.partial(completed, station=station)
+        reason = why if held.step.get("SpecificCharacterSet") in (None, "", UTF_8) else why.encode("ascii", "replace").decode()
+        needed = functools.partial(canceled, reason=reason) if why else functools.partial(completed, station=station)
         while True:
             try:
                 with associated(self.asked, [PULL]) as association:
@@ -1037,7 +1186,7 @@ class Performer:
         why = why or self.ended(held, line)
         status = self.finish(held, why)
         self.follow(4, held.uid)
-        print(f"{held.uid}: {STATES[3 if why else 2]}{why and f', {why}'}: {told(status)}", file=sys.stderr, flush=True)
+        print(f"{held.uid}: {STATES[3 if why else 2]}{why and f', {printable(why)}'}: {told(status)}", file=sys.stderr, flush=True)
         return 1 if why or not is_done(status) else 0
 
     def next(self) -> Optional[int]:
@@ -1049,7 +1198,7 @@ class Performer:
         except (OSError, Refused) as fault:
             if self.asked.every is None:
                 raise
-            print(f"{now()} {fault}", file=sys.stderr, flush=True)
+            complain(str(fault))
             return None
 
     def run(self) -> int:
@@ -1087,20 +1236,23 @@ def elements_of(found: bytes) -> dict[int, tuple[bytes, bytes]]:
     """Returns the value representation and the value of each element, by tag, of a data set in Explicit VR Little Endian whose
     sequences have explicit lengths."""
     elements, at = {}, 0
-    while at < len(found):
-        group, number, vr, length = struct.unpack_from("<HH2sH", found, at)
-        at += 8
-        if vr in LONG:
-            (length,) = struct.unpack_from("<I", found, at)
-            at += 4
-        elements[group << 16 | number] = vr, found[at : at + length]
-        at += length
+    try:
+        while at < len(found):
+            group, number, vr, length = struct.unpack_from("<HH2sH", found, at)
+            at += 8
+            if vr in LONG:
+                (length,) = struct.unpack_from("<I", found, at)
+                at += 4
+            elements[group << 16 | number] = vr, found[at : at + length]
+            at += length
+    except struct.error:
+        raise Refused("a data set whose lengths do not fit its bytes") from None
     return elements
 
 
 def first_item(sequence: bytes) -> bytes:
     """Returns the content of the first item of a sequence of explicit length; empty if it has none."""
-    return sequence[8 : 8 + struct.unpack_from("<I", sequence, 4)[0]] if sequence else b""
+    return sequence[8 : 8 + int.from_bytes(sequence[4:8], "little")]
 
 
 def value_at(found: bytes, *path: int) -> str:
@@ -1118,7 +1270,7 @@ def code_at(found: bytes, *path: int) -> str:
 
 def character_set_of(found: bytes) -> bytes:
     """Returns Specific Character Set of a data set in Explicit VR Little Endian; empty if it is not the first element."""
-    group, number, vr, length = struct.unpack_from("<HH2sH", found) if found else (0, 0, b"", 0)
+    group, number, vr, length = struct.unpack_from("<HH2sH", found) if len(found) >= 8 else (0, 0, b"", 0)
     return found[8 : 8 + length].strip() if group << 16 | number == CHARACTER_SET and vr == b"CS" else b""
 
 
@@ -1127,9 +1279,14 @@ def plain(found: bytes, implicit: bool) -> bytes:
     if not implicit and b"\xff\xff\xff\xff" not in found and character_set_of(found) in PLAIN:
         return found
     given = read(found, implicit)
-    given.decode()
-    given.SpecificCharacterSet = UTF_8
-    return spelled(with_lengths(given), False)
+    try:
+        given.decode()
+        given.SpecificCharacterSet = UTF_8
+        return spelled(with_lengths(given), False)
+    except Refused:
+        raise
+    except Exception as fault:  # pydicom raises exceptions of many classes
+        raise Refused(f"a data set that can't be read: {fault}") from None
 
 
 def with_lengths(given: Dataset) -> Dataset:
@@ -1381,11 +1538,11 @@ def ended_by_nagios(asked: argparse.Namespace, status: Optional[int], fault: Opt
 
 
 def out_of_time(*_: Any) -> None:
-    raise TimeoutError("no answer came in time")
+    raise Over("no answer came in time")
 
 
 def asked_for_nobody(asked: argparse.Namespace) -> int:
-    """Returns the status of an N-GET of a step that nobody has. Raises OSError if its association takes longer than --within."""
+    """Returns the status of an N-GET of a step that nobody has. Raises Over if its association takes longer than --within."""
     signal.signal(signal.SIGALRM, out_of_time)
     signal.setitimer(signal.ITIMER_REAL, asked.within)
     try:
@@ -1551,26 +1708,118 @@ CLASSES = {echo: VERIFICATION, create: PUSH, find: PULL, get: PULL, claim: PULL,
 # event reports, received as a watcher and sent to one
 
 def report_line(command: Dataset, information: Optional[Dataset]) -> str:
-    """Returns what an N-EVENT-REPORT says, in a line."""
-    shown = "" if information is None else "  ".join(f"{it.keyword or it.tag}={'..' if it.VR == 'SQ' else it.value}"
-                                                     for it in information)
-    return f"{now()} {command.AffectedSOPInstanceUID} {EVENTS.get(command.EventTypeID, command.EventTypeID)}: {shown}"
+    """Returns what an N-EVENT-REPORT says, in a line, or why that can't be read."""
+    try:
+        said = "  ".join(f"{it.keyword or it.tag}={'..' if it.VR == 'SQ' else it.value}" for it in information or ())
+    except Exception as fault:  # pydicom raises exceptions of many classes
+        said = f"it can't be read: {fault}"
+    event = EVENTS.get(command.EventTypeID, command.EventTypeID)
+    return f"{moment_now()} {command.AffectedSOPInstanceUID} {event}: {printable(said)}"
 
 
-def take_reports(association: Association, tell: Callable[[Dataset, Optional[bytes]], None], status: int = 0,
-                 delay: float = 0) -> None:
-    """Takes the reports of an association that the server requests, and calls `tell` with each before it answers."""
-    kind, asked = association.pdu()
-    if kind != ASSOCIATE_RQ:
-        raise Refused(f"a PDU of type {kind:02X} instead of an association request")
-    association.accept(asked)
+def listener_of(asked: argparse.Namespace) -> socket.socket:
+    """Listens where the options say."""
+    warnings.simplefilter("ignore")  # pydicom warns of values that anybody may send, and each warning would be kept
+    try:
+        family = socket.AF_INET6 if ":" in asked.address else socket.AF_INET
+        return socket.create_server((asked.address, asked.listen), family=family)
+    except OSError as fault:
+        raise Refused(f"{asked.address}:{asked.listen}: {fault.strerror or fault}") from None
+    except UnicodeError:
+        raise Refused(f"{asked.address!r} is no address") from None
+
+
+def connections(listener: socket.socket, asked: argparse.Namespace) -> Iterator[tuple[socket.socket, str]]:
+    """Yields each connection, and where it comes from, as long as the listener is open. One of an address that may not connect is
+    closed before anything of it is read."""
+    while listener.fileno() >= 0:
+        try:
+            connection, (host, port, *_) = listener.accept()
+        except OSError as fault:  # such as too many open files
+            if listener.fileno() >= 0:
+                complain(f"a connection was not taken: {fault}")
+                time.sleep(1)
+            continue
+        where = f"[{host}]:{port}" if ":" in host else f"{host}:{port}"
+        if asked.allow is None or any(ipaddress.ip_address(host) in each for each in asked.allow):
+            yield connection, where
+        else:
+            connection.close()
+            complain(f"{where}: it is none of the addresses that --allow names")
+
+
+Tell = Callable[[Dataset, Optional[bytes]], None]
+
+
+def take_association(asked: argparse.Namespace, connection: socket.socket, where: str, tell: Tell, caller: str = "") -> bool:
+    """Takes the reports of one association, and returns whether its peer released it. Whatever the peer sends ends this association
+    alone, with a line that says why."""
+    association = Association(connection, asked)
+    with connection:
+        try:
+            take_reports(association, asked, tell, caller)
+            return True
+        except Over as fault:
+            complain(f"{where}: {fault}")
+        except Refused as fault:
+            complain(f"{where}: aborted: {fault}")
+            association.abort()
+        except Exception as fault:  # pydicom raises exceptions of many classes, some where a value is looked at
+            complain(f"{where}: aborted: {type(fault).__name__}: {fault}")
+            association.abort()
+    return False
+
+
+def take_in_threads(listener: socket.socket, asked: argparse.Namespace,
+                    tell: Callable[[int, Dataset, Optional[bytes]], None]) -> None:
+    """Begins to take associations of the server that --called names, each in a thread and AT_ONCE of them at a time; `tell` is also
+    given the number of each."""
+    room = threading.Semaphore(AT_ONCE)
+
+    def take(number: int, connection: socket.socket, where: str) -> None:
+        try:
+            take_association(asked, connection, where, functools.partial(tell, number), asked.called)
+        finally:
+            room.release()
+
+    def listen() -> None:
+        for number, (connection, where) in enumerate(connections(listener, asked), 1):
+            room.acquire()
+            threading.Thread(target=take, args=(number, connection, where), daemon=True).start()
+
+    threading.Thread(target=listen, daemon=True).start()
+
+
+def take_reports(association: Association, asked: argparse.Namespace, tell: Tell, caller: str = "") -> None:
+    """Takes the reports of an association that the server requests, and calls `tell` with each before it answers. Who calls another
+    title than that of this side is rejected, and so is who has another one than `caller`, unless that is empty."""
+    kind, request = association.pdu()
+    if kind != ASSOCIATE_RQ or len(request) < 68:
+        raise Refused(f"a PDU of type {kind:02X} and {len(request):,} bytes in the place of an association request")
+    called, calling = (request[at : at + 16].decode("latin-1").strip(" ") for at in (4, 20))
+    if called != asked.ae.strip(" "):
+        association.reject(7, f"it calls {called!r}, and this is {asked.ae}")
+    if caller and calling != caller.strip(" "):
+        association.reject(3, f"it is {calling!r}, and the server is {caller}")
+    association.accept(request)
     while (found := association.message()) is not None:
         context, command, data = found
+        answer = answer_to(association, context, command, asked.status)
         tell(command, data)
-        time.sleep(delay)
-        association.send(context, {"AffectedSOPClassUID": PUSH, "CommandField": 0x8100, "Status": status,
-                                   "MessageIDBeingRespondedTo": command.MessageID, "EventTypeID": command.EventTypeID,
-                                   "AffectedSOPInstanceUID": command.AffectedSOPInstanceUID})
+        time.sleep(asked.delay)
+        association.send(context, answer)
+
+
+def answer_to(association: Association, context: int, command: Dataset, status: int) -> dict[str, Any]:
+    """Returns the response to an N-EVENT-REPORT (PS3.7 section 10.3.1.1). Raises Refused if the request isn't one."""
+    if context not in association.accepted:
+        raise Refused(f"a message on presentation context {context}, which was not accepted")
+    if (kind := number_of_command(command, "CommandField")) != 0x0100:
+        raise Refused(f"a message with Command Field {kind:04X}H in the place of a report")
+    return {"AffectedSOPClassUID": PUSH, "CommandField": 0x8100, "Status": status,
+            "MessageIDBeingRespondedTo": number_of_command(command, "MessageID"),
+            "EventTypeID": number_of_command(command, "EventTypeID"),
+            "AffectedSOPInstanceUID": uid_of_command(command, "AffectedSOPInstanceUID")}
 
 
 def report_json(command: Dataset, information: Optional[Dataset]) -> str:
@@ -1591,7 +1840,7 @@ def run_for_report(asked: argparse.Namespace, command: Dataset, line: str) -> No
     ran = subprocess.run(["sh", "-c", asked.exec], input=f"{line}\n".encode(), stdout=sys.stderr, env={**os.environ, **variables},
                          check=False)
     if ran.returncode:
-        print(f"{now()} {asked.exec} ended with {ran.returncode}", file=sys.stderr, flush=True)
+        complain(f"{asked.exec} ended with {ran.returncode}")
 
 
 def tell_report(asked: argparse.Namespace, command: Dataset, data: Optional[bytes]) -> None:
@@ -1608,20 +1857,15 @@ def tell_report(asked: argparse.Namespace, command: Dataset, data: Optional[byte
 
 
 def watch(asked: argparse.Namespace) -> int:
-    """Prints the reports to a watcher, until it is interrupted, or over as many associations as `--associations` says."""
-    tell = functools.partial(tell_report, asked)
-    with socket.create_server((asked.address, asked.listen)) as listener:
+    """Prints the reports to a watcher, until it is interrupted, or until as many associations as `--associations` says were
+    released."""
+    tell, released = functools.partial(tell_report, asked), 0
+    with listener_of(asked) as listener:
         print(f"{asked.ae} takes reports on {asked.address}:{listener.getsockname()[1]}", file=asked.aside, flush=True)
-        for number in itertools.count(1):
-            if asked.associations and number > asked.associations:
-                return 0
-            connection, _ = listener.accept()
-            with connection:
-                connection.settimeout(asked.timeout)
-                try:
-                    take_reports(Association(connection, asked.implicit), tell, asked.status, asked.delay)
-                except (OSError, Refused) as fault:
-                    print(f"{now()} {fault}", file=sys.stderr, flush=True)
+        for connection, where in connections(listener, asked):
+            released += take_association(asked, connection, where, tell)
+            if 0 < asked.associations <= released:
+                break
     return 0
 
 
@@ -1631,8 +1875,7 @@ def announce_to(asked: argparse.Namespace, watcher: tuple[str, str, int]) -> int
     told_of = {"SCPStatus": asked.status}
     if asked.status == "RESTARTED":
         told_of.update(SubscriptionListStatus=asked.subscriptions, UnifiedProcedureStepListStatus=asked.steps)
-    with socket.create_connection((host, port), asked.timeout) as connection:
-        association = Association(connection, asked.implicit)
+    with connected(host, port, asked) as association:
         association.propose(called, asked.called, [EVENT], (IMPLICIT,) if asked.implicit else (EXPLICIT, IMPLICIT), EVENT_ROLE)
         elements = {"AffectedSOPClassUID": PUSH, "CommandField": 0x0100, "AffectedSOPInstanceUID": GLOBAL, "EventTypeID": 4}
         status = association.ask(EVENT, elements, made(told_of))[0][0].Status
@@ -1997,22 +2240,11 @@ def attributes_shown(found: Dataset, deep: int = 0) -> Iterator[dict[str, Any]]:
 class Watching:
     """The board as a watcher: it subscribes, takes reports, and queries the worklist."""
 
-    def __init__(self, asked: argparse.Namespace, listener: socket.socket) -> None:
-        self.asked, self.listener, self.worklist = asked, listener, Worklist()
+    def __init__(self, asked: argparse.Namespace) -> None:
+        self.asked, self.worklist = asked, Worklist()
         self.questions: queue.Queue[str] = queue.Queue()
         self.queued: set[str] = set()
         self.newest, self.due, self.one, self.subscribed = 0, 0.0, 0.0, 0
-
-    def listen(self) -> None:
-        """Takes each association that the server requests."""
-        for number in itertools.count(1):
-            connection, _ = self.listener.accept()
-            threading.Thread(target=self.take, args=(number, connection), daemon=True).start()
-
-    def take(self, number: int, connection: socket.socket) -> None:
-        connection.settimeout(self.asked.timeout)
-        with connection, contextlib.suppress(OSError, Refused, struct.error):
-            take_reports(Association(connection, self.asked.implicit), functools.partial(self.report, number))
 
     def report(self, number: int, command: Dataset, data: Optional[bytes]) -> None:
         """Folds in a report. One of an older association is skipped: the newest brings it again, and its order may be wrong."""
@@ -2107,7 +2339,7 @@ class Watching:
             try:
                 with associated(self.asked, [WATCH, PULL]) as association:
                     self.work(association)
-            except (OSError, Refused, struct.error) as fault:
+            except (OSError, Refused) as fault:
                 self.worklist.say(f"The server does not answer: {fault}.")
                 time.sleep(1)
 
@@ -2203,16 +2435,24 @@ def token_of_board() -> str:
     return token
 
 
+def page_server(port: int, pages: type[Pages]) -> http.server.ThreadingHTTPServer:
+    """Listens for the page of a board."""
+    try:
+        return http.server.ThreadingHTTPServer(("127.0.0.1", port), pages)
+    except OSError as fault:
+        raise Refused(f"127.0.0.1:{port}: {fault.strerror or fault}") from None
+
+
 def board(asked: argparse.Namespace) -> int:
     """Runs the board until it is interrupted."""
     signal.signal(signal.SIGTERM, lambda *_: sys.exit(0))
     token = token_of_board()
-    with socket.create_server((asked.address, asked.listen)) as listener:
-        watching = Watching(asked, listener)
+    with listener_of(asked) as listener:
+        watching = Watching(asked)
         pages = type("PagesOfBoard", (Pages,), {"watching": watching, "token": token})
-        with http.server.ThreadingHTTPServer(("127.0.0.1", asked.page), pages) as server:
-            for run in (watching.listen, watching.ask):
-                threading.Thread(target=run, daemon=True).start()
+        with page_server(asked.page, pages) as server:
+            take_in_threads(listener, asked, watching.report)
+            threading.Thread(target=watching.ask, daemon=True).start()
             print(f"the board is at http://127.0.0.1:{server.server_address[1]}/?token={token}", flush=True)
             try:
                 server.serve_forever()
@@ -2606,16 +2846,46 @@ def count(word: str) -> int:
 
 
 def seconds(word: str) -> float:
-    if not re.fullmatch(r"\d+(\.\d+)?", word, re.ASCII):
+    if not re.fullmatch(r"\d{1,9}(\.\d{1,9})?", word, re.ASCII):
         raise argparse.ArgumentTypeError(f"{word!r} is no number of seconds")
     return float(word)
 
 
 def duration(word: str) -> float:
     """Reads a number of seconds above 0."""
-    if not seconds(word):
-        raise argparse.ArgumentTypeError(f"{word!r} is no duration: seconds are more than 0")
+    if not 0.001 <= seconds(word) <= LONGEST_WAIT:
+        raise argparse.ArgumentTypeError(f"{word!r} is no duration: seconds are more than 0, and {LONGEST_WAIT:,} at most")
     return seconds(word)
+
+
+def port_number(word: str) -> int:
+    """Reads a port to connect to."""
+    if not re.fullmatch(r"[0-9]{1,5}", word) or not 1 <= int(word) <= 65535:
+        raise argparse.ArgumentTypeError(f"{word!r} is no port: that is 1 to 65535")
+    return int(word)
+
+
+def own_port(word: str) -> int:
+    """Reads a port to listen on; 0 stands for a free one."""
+    return 0 if word == "0" else port_number(word)
+
+
+def minutes(word: str) -> int:
+    """Reads an offset from UTC."""
+    if not re.fullmatch(r"[+-]?[0-9]{1,3}", word) or not -720 <= int(word) <= 840:
+        raise argparse.ArgumentTypeError(f"{word!r} is no offset: that is -720 to 840 minutes")
+    return int(word)
+
+
+Network = Union[ipaddress.IPv4Network, ipaddress.IPv6Network]
+
+
+def addresses(word: str) -> list[Network]:
+    """Reads addresses, or networks such as 10.1.0.0/16, with commas between them."""
+    try:
+        return [ipaddress.ip_network(each, strict=False) for each in word.split(",")]
+    except ValueError:
+        raise argparse.ArgumentTypeError(f"{word!r} is no address: write it as 10.1.2.3 or 10.1.2.3,10.1.2.0/24") from None
 
 
 def peer(word: str) -> tuple[str, str, int]:
@@ -2654,11 +2924,11 @@ def common(of_a_board: bool = False) -> argparse.ArgumentParser:
     """Returns a parser of the options of every command. `--port` of a board is that of its page."""
     found = argparse.ArgumentParser(add_help=False)
     found.add_argument("--host", default="127.0.0.1", help="where the server is; UPS_SERVER=HOST:PORT (127.0.0.1)")
-    found.add_argument("--server-port" if of_a_board else "--port", dest="port", type=int, default=11112,
+    found.add_argument("--server-port" if of_a_board else "--port", dest="port", type=port_number, default=11112,
                        help="the server's port (11112)")
     found.add_argument("--called", type=title, default="UPSD", help="the server's title; UPS_CALLED (UPSD)")
     found.add_argument("--ae", type=title, default="CLIENT", help="the title of this side; UPS_AE (CLIENT)")
-    found.add_argument("--timeout", type=float, default=30, help="seconds for an answer (30)")
+    found.add_argument("--timeout", type=duration, default=30, metavar="S", help="seconds for an answer (30)")
     found.add_argument("--implicit", action="store_true", help="Implicit VR Little Endian in place of Explicit VR Little Endian")
     return found
 
@@ -2670,13 +2940,14 @@ class Commands:
         about, _, more = (__doc__ or "").partition("\n\n")
         self.whole = argparse.ArgumentParser(prog=NAME, description=about, epilog=more,
                                              formatter_class=argparse.RawDescriptionHelpFormatter)
+        self.whole.add_argument("--version", action="version", version=f"{NAME} {VERSION}")
         self.commands = self.whole.add_subparsers(required=True, metavar="COMMAND")
         self.defaults = of_environment()
 
     def add(self, name: str, run: Any, what: str, example: str) -> argparse.ArgumentParser:
         words = common(name == "board")
         added = self.commands.add_parser(name, parents=[words], help=what, description=what, epilog=f"example: ups {example}")
-        added.set_defaults(run=run, json=False, nagios=False, prometheus=False, health=None, **self.defaults)
+        added.set_defaults(run=run, json=False, nagios=False, prometheus=False, health=None, status=0, delay=0, **self.defaults)
         return added
 
 
@@ -2723,9 +2994,11 @@ def add_receiver(of: argparse.ArgumentParser, step: bool = True) -> argparse.Arg
     return of
 
 
-def add_listening(of: argparse.ArgumentParser, port: int) -> None:
-    of.add_argument("--listen", type=int, default=port, help=f"the port that the server has for the watcher ({port})")
+def add_listening(of: argparse.ArgumentParser, default: Optional[int], what: str) -> None:
+    of.add_argument("--listen", type=own_port, default=default, metavar="PORT", help=what)
     of.add_argument("--address", default="127.0.0.1", help="the address to listen on (127.0.0.1)")
+    of.add_argument("--allow", type=addresses, metavar="ADDRESS[,ADDRESS]",
+                    help="who may connect there, by address or network: name the server (anybody, who may then forge reports)")
 
 
 def add_questions(to: Commands) -> None:
@@ -2752,7 +3025,7 @@ def add_questions(to: Commands) -> None:
 def add_status(to: Commands) -> None:
     it = to.add("status", server_status, "counts steps, and measures a look-up; for a monitor too",
                 "status --nagios --warning 0.5,86400 --critical 2")
-    it.add_argument("--offset", type=int, metavar="MINUTES",
+    it.add_argument("--offset", type=minutes, metavar="MINUTES",
                     help="the server's --offset, for times that say none (that of this machine)")
     form = it.add_mutually_exclusive_group()
     form.add_argument("--nagios", action="store_true",
@@ -2818,9 +3091,8 @@ def add_work(to: Commands) -> None:
     it.add_argument("--steps", type=count, default=1, metavar="N", help="does so many steps, 0 for all that there are (1)")
     it.add_argument("--every", type=seconds, metavar="S", help="asks again after so many seconds if there is none (ends)")
     it.add_argument("--due", action="store_true", help="leaves steps whose scheduled start is yet to come")
-    it.add_argument("--listen", type=int, metavar="PORT",
-                    help="the port that the server has for this performer as a watcher: then a request to cancel ends the command")
-    it.add_argument("--address", default="127.0.0.1", help="the address to listen on (127.0.0.1)")
+    add_listening(it, None,
+                  "the port that the server has for this performer as a watcher: then a request to cancel ends the command")
     it.add_argument("command", nargs="*", metavar="COMMAND",
                     help="completes the step if it ends with 0, and else cancels it; {} is a file with the step as JSON, which is also "
                          "its standard input, and its output goes to standard error; without it the step is left claimed")
@@ -2837,8 +3109,9 @@ def add_watching(to: Commands) -> None:
                 "suspend --receiver WATCH1")
     add_receiver(it, step=False)
     it = to.add("watch", watch, "takes the event reports of a watcher and prints them", "watch --ae WATCH1 --listen 11113")
-    add_listening(it, 11113)
-    it.add_argument("--associations", type=int, default=0, help="ends after so many associations (never)")
+    add_listening(it, 11113, "the port that the server has for the watcher (11113)")
+    it.add_argument("--associations", type=count, default=0, metavar="N",
+                    help="ends when so many associations were released (never)")
     it.add_argument("--json", action="store_true", help="each report as a line of JSON, which is out before it is answered")
     it.add_argument("--exec", metavar="COMMAND",
                     help="runs this in a shell for each report, with its JSON as standard input, and then answers it; its output goes "
@@ -2858,9 +3131,9 @@ def add_watching(to: Commands) -> None:
     it.add_argument("--steps", help="Unified Procedure Step List Status of a restart (COLD START)", **start)
     it = to.add("board", board, "shows the worklist as a page, and beside it what event reports alone tell",
                 "board --port 8080 --ae BOARD --listen 11114")
-    it.add_argument("--port", dest="page", type=int, default=8080,
+    it.add_argument("--port", dest="page", type=own_port, default=8080,
                     help="the port of the page, on 127.0.0.1 alone (8080; 0 for a free one)")
-    add_listening(it, 11114)
+    add_listening(it, 11114, "the port that the server has for the watcher (11114)")
     it.add_argument("--every", type=seconds, default=5, metavar="S",
                     help="seconds between two queries for all steps when no report comes (5)")
 
@@ -2903,6 +3176,7 @@ def asked_of_server(asked: argparse.Namespace) -> int:
     return 0 if is_done(status) else 1
 
 
+INTERRUPTED, UNREAD = 130, 141  # exit statuses as a shell has them for SIGINT and SIGPIPE
 ALONE = (watch, announce, check, audit, board, export, import_steps, work, server_health)  # these open associations themselves, if any
 
 
@@ -2911,12 +3185,17 @@ def main() -> int:
         stream.reconfigure(errors="backslashreplace")  # a terminal may lack a character
     try:
         asked = read_words()
-        return asked.run(asked) if asked.run in ALONE else asked_of_server(asked)
+        status = asked.run(asked) if asked.run in ALONE else asked_of_server(asked)
+        sys.stdout.flush()
+        return status
+    except BrokenPipeError:
+        os.dup2(os.open(os.devnull, os.O_WRONLY), sys.stdout.fileno())  # which is flushed again at the end
+        return UNREAD
     except (OSError, Refused) as fault:
         print(f"{NAME}: {fault}", file=sys.stderr)
         return 2
     except KeyboardInterrupt:
-        return 0
+        return INTERRUPTED
 
 
 if __name__ == "__main__":

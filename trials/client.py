@@ -23,11 +23,15 @@ failed. trials/stock.py has the life of steps through the client, and trials/boa
     work         a step that is done, and the claims that `status` names
     scripts      each line of `watch --json` is out, and each command of `--exec` has ended, before the report is answered; nothing
                  is answered for a reader that is gone
+    strangers    `watch`, also with --json and --exec, `board`, and an address that --allow does not name: whatever strangers send
+                 ends their association alone, with a line; the next report is taken. Commands with a server that sends such things
+    words        numbers that are none or too large end no command by a traceback; an interrupt, a reader that is gone, --version
 """
 
 from __future__ import annotations
 
 import argparse
+import contextlib
 import dataclasses
 import datetime
 import json
@@ -35,16 +39,21 @@ import os
 import re
 import resource
 import signal
+import socket
 import stat
 import subprocess
 import sys
 import tempfile
 import threading
+import time
+import urllib.request
 import warnings
 from typing import Any, Optional
 
-sys.path.insert(0, os.path.join(os.path.dirname(os.path.dirname(os.path.abspath(__file__))), "check/lib"))
+TOP = os.path.dirname(os.path.dirname(os.path.abspath(__file__)))
+sys.path[:0] = [os.path.join(TOP, it) for it in ("check/lib", "trials/lib")]
 import stock
+import strangers
 from machine import HERE, free_port, holds, install
 from results import Results
 from server import Server
@@ -638,6 +647,204 @@ def try_scripts(results: Results, program: list[str], folder: str) -> None:
         results.tell("a command that fails is told", wrong(ran, DONE, "exit 3 ended with 3", "1.2.13.1 state: "))
 
 
+class Listening:
+    """The client as a listener, and the lines that it prints."""
+
+    def __init__(self, *words: str) -> None:
+        self.process = started(*words)
+        self.out: list[str] = []
+        self.error: list[str] = []
+        for lines, stream in ((self.out, self.process.stdout), (self.error, self.process.stderr)):
+            threading.Thread(target=lines.extend, args=(stream,), daemon=True).start()
+
+    def says(self, what: str, is_error: bool = False) -> bool:
+        """Waits for a line with this text."""
+        lines = self.error if is_error else self.out
+        return holds(lambda: any(what in line for line in list(lines)), LIMIT)
+
+    def end(self) -> int:
+        """Interrupts it, and returns its exit status."""
+        self.process.send_signal(signal.SIGINT)
+        try:
+            return self.process.wait(LIMIT)
+        except subprocess.TimeoutExpired:
+            self.process.kill()
+            return -1
+
+
+def try_strangers(results: Results) -> None:
+    """Tries what ends an association and must not end `watch`, and who may not have one."""
+    for number, words in enumerate(([], ["--json", "--exec", 'echo "ran $UPS_STEP"'], ["--implicit", "--json"])):
+        port, name = free_port(), " ".join(["watch", *words[:2]])
+        watch = Listening("watch", "--ae", "WATCHER", "--listen", str(port), *words)
+        watch.says("takes reports", bool(words))
+        for place, each in enumerate(strangers.STRANGERS if "--implicit" not in words else ()):
+            uid, seen = f"1.2.15.{number}.{place}", len(watch.error)
+            fault = strangers.sent(port, b"WATCHER", each) or strangers.told(port, b"WATCHER", uid.encode())
+            fault = fault or (None if watch.says(f"ran {uid}" if "--exec" in words else f"{uid} state: ", bool(words)) else "no line")
+            is_told = holds(lambda: any("127.0.0.1:" in it for it in watch.error[seen:]), 5)
+            results.tell(f"{name}: {each.name} ends its association alone", fault or (None if is_told else "nothing is told of it"))
+        for called, calling in ((b"OTHER", b"UPSD"), (b"", b"UPSD"), (b"watcher", b"UPSD")):
+            fault = strangers.rejected(port, called, calling, strangers.TITLE_UNKNOWN)
+            results.tell(f"{name}: who calls {called!r} is rejected", fault)
+        with contextlib.suppress(OSError):
+            strangers.Reporter(port).socket.close()
+        ran = run("announce", f"WATCHER=127.0.0.1:{port}", *[it for it in words if it == "--implicit"])
+        results.tell(f"{name}: announce is told behind all", wrong(ran, DONE, "WATCHER: 0000"))
+        ended = watch.end()
+        traces = [line for line in watch.error if "Traceback" in line]
+        results.tell(f"{name}: it ends at an interrupt", None if ended == 130 and not traces else f"with {ended} {traces}")
+
+
+def try_allowed(results: Results) -> None:
+    """Tries --allow: an address that it does not name, and one that it does, by a network too; and --associations."""
+    port = free_port()
+    watch = Listening("watch", "--ae", "WATCHER", "--listen", str(port), "--allow", "127.0.0.2,127.0.1.0/24", "--associations", "2")
+    watch.says("takes reports")
+    fault = strangers.told(port, b"WATCHER", b"1.2.16.1")
+    results.tell("--allow refuses another address", None if fault else "it does not")
+    results.tell("and says so", None if watch.says("is none of the addresses that --allow names", True) else str(watch.error))
+    strangers.Reporter(port, "127.0.0.2").ended(strangers.request(b"WATCHER") + b"?" * 1000)
+    for source in ("127.0.0.2", "127.0.1.9"):
+        fault = strangers.told(port, b"WATCHER", f"1.2.16.{source}".encode(), source=source)
+        results.tell(f"--allow lets {source} in", fault or (None if watch.says(f"1.2.16.{source} state: ") else "no line"))
+    results.tell("two associations that are released end it", None if holds(lambda: watch.process.poll() == 0, 10) else "no")
+
+
+def try_slow(results: Results) -> None:
+    """Tries a peer that trickles, and one that never ends a message: it has --timeout for a message, and not for each byte."""
+    port = free_port()
+    watch = Listening("watch", "--ae", "WATCHER", "--listen", str(port), "--timeout", "2")
+    watch.says("takes reports")
+    slow, begun = strangers.Reporter(port), time.monotonic()
+    slow.socket.sendall(strangers.request(b"WATCHER"))
+    try:
+        for byte in strangers.report(b"1.2.3"):
+            slow.socket.sendall(bytes([byte]))
+            time.sleep(0.2)
+    except OSError:
+        pass
+    took = time.monotonic() - begun
+    fault = strangers.told(port, b"WATCHER", b"1.2.17.1") or (None if took < 10 else f"it took {took:.0f} s")
+    results.tell("a message that trickles ends", fault)
+    endless, begun = strangers.Reporter(port), time.monotonic()
+    endless.socket.sendall(strangers.request(b"WATCHER"))
+    with contextlib.suppress(OSError):
+        while time.monotonic() - begun < 20:
+            endless.socket.sendall(strangers.pdu(4, strangers.EMPTY * 2_000))
+    took = time.monotonic() - begun
+    fault = strangers.told(port, b"WATCHER", b"1.2.17.2") or (None if took < 10 else f"it took {took:.0f} s")
+    results.tell("a message of empty fragments without an end ends", fault)
+    watch.end()
+
+
+def try_board(results: Results, program: list[str]) -> None:
+    """Tries the listener of `board`, without a browser: what strangers send, and other titles; then a report of the server."""
+    listen, token = free_port(), "a-token-of-a-trial"
+    with Server(program, "--keep", "3600", f"BOARD=127.0.0.1:{listen}") as server:
+        os.environ["UPS_TOKEN"] = token
+        board = Listening("board", "--port", "0", "--server-port", str(server.port), "--ae", "BOARD", "--listen", str(listen))
+        del os.environ["UPS_TOKEN"]
+        board.says("the board is at ")
+        page = re.search(r"http://127\.0\.0\.1:\d+/", board.out[0])
+
+        def state() -> dict[str, Any]:
+            with urllib.request.urlopen(f"{page[0]}state?token={token}", timeout=LIMIT) as found:
+                said: dict[str, Any] = json.load(found)
+                return said
+
+        run("create", "1.2.18.0", "--port", str(server.port))
+        results.tell("the board shows a step by its report", None if holds(lambda: state().get("told") == 1, 20) else str(state()))
+        for each in strangers.STRANGERS:
+            results.tell(f"board: {each.name} ends its association alone", strangers.sent(listen, b"BOARD", each))
+        fault = strangers.rejected(listen, b"OTHER", b"UPSD", strangers.TITLE_UNKNOWN)
+        results.tell("board: who calls another title is rejected", fault)
+        fault = strangers.rejected(listen, b"BOARD", b"OTHER", strangers.CALLER_UNKNOWN)
+        results.tell("board: who isn't the server is rejected", fault)
+        run("create", "1.2.18.1", "--port", str(server.port))
+        results.tell("the board shows the next step by its report", None if holds(lambda: state().get("told") == 2, 20) else str(state()))
+        traces = [line for line in board.error if "Traceback" in line or "Exception" in line]
+        ended = board.end()
+        results.tell("the board ends at an interrupt", None if ended == 130 and not traces else f"with {ended} {traces}")
+
+
+# words that are wrong, with the exit status and what is told; none has a server
+WRONG: list[tuple[str, int, str]] = [
+    ("echo --timeout -1", NO_ANSWER, "is no"), ("echo --timeout nan", NO_ANSWER, "is no"), ("echo --timeout 0", NO_ANSWER, "is no duration"),
+    ("echo --timeout 1e9", NO_ANSWER, "is no"), ("echo --timeout 99999999", NO_ANSWER, "is no duration"),
+    ("echo --port 99999", NO_ANSWER, "is no port"), ("echo --port 0", NO_ANSWER, "is no port"), ("echo --port -1", NO_ANSWER, "is no port"),
+    ("board --port 70000", NO_ANSWER, "is no port"), ("board --server-port x", NO_ANSWER, "is no port"),
+    ("watch --listen 99999", NO_ANSWER, "is no port"), ("work --listen 70000", NO_ANSWER, "is no port"),
+    ("watch --associations -1", NO_ANSWER, "is no count"), ("watch --delay 99999999999", NO_ANSWER, "is no number of seconds"),
+    ("watch --allow nobody", NO_ANSWER, "is no address"), ("watch --allow 1.2.3.4,", NO_ANSWER, "is no address"),
+    ("watch --address 192.0.2.1 --listen 0", NO_ANSWER, "192.0.2.1:0: "), ("watch --address nowhere..invalid", NO_ANSWER, "nowhere..invalid"),
+    ("board --address 192.0.2.1", NO_ANSWER, "192.0.2.1:11114: "), ("status --offset 9999", NO_ANSWER, "is no offset"),
+    ("work --every 99999999999", NO_ANSWER, "is no number of seconds"), ("health --within 99999999", 3, "is no duration"),
+    ("status --nagios --timeout 0", 3, "is no duration"), ("echo --host nowhere..invalid", NO_ANSWER, "is no name of a host"),
+    ("echo --port 1", NO_ANSWER, "127.0.0.1:1: Connection refused"), ("export --port 1", NO_ANSWER, "127.0.0.1:1: Connection refused"),
+    ("board --server-port 1 --address 127.0.0.1 --listen 1 --port 1 --timeout 0", NO_ANSWER, "is no duration"),
+]
+
+
+def try_words(results: Results, folder: str) -> None:
+    """Tries wrong words, an interrupt, readers that are gone, and --version."""
+    for words, status, told in WRONG:
+        ran = run(*words.split())
+        results.tell(words, wrong(ran, status, told) or (ran.error if "Traceback" in ran.error else None))
+    with open(os.path.join(HERE, "crates/ups_args/src/program.rt"), encoding="utf-8") as source:
+        version = re.search(r'VERSION: &str = "([^"]+)"', source.read())
+    ran = run("--version")
+    results.tell("--version", wrong(ran, DONE) or (None if version and ran.out == f"ups.py {version[1]}\n" else ran.out))
+    path = os.path.join(folder, "log")
+    line = "2026-11-26T10:15:00Z [INFO  upsd] audit: Sweep UPSD, 1 steps\n"
+    with open(path, "w", encoding="utf-8") as file:
+        file.write(line * 20_000)
+    for words in (f"audit {path}", "--help"):
+        ran = subprocess.run(["bash", "-c", f'{" ".join(CLIENT)} {words} | head -1; exit "${{PIPESTATUS[0]}}"'], capture_output=True,
+                             encoding="utf-8", timeout=LIMIT, check=False)
+        fault = None if ran.returncode in (0, 141) and not ran.stderr and ran.stdout.count("\n") == 1 else f"{ran}"
+        results.tell(f"{words.split()[0]} | head -1", fault)
+    asking = Listening("echo", "--port", str(silent_port()))
+    time.sleep(2)
+    ended = asking.end()
+    results.tell("an interrupt", None if ended == 130 and not asking.error else f"{ended} {asking.error}")
+
+
+def silent_port() -> int:
+    """Returns the port of a listener that takes no connection, and leaves it open."""
+    SILENT.append(socket.create_server(("127.0.0.1", 0)))
+    port: int = SILENT[-1].getsockname()[1]
+    return port
+
+
+SILENT: list[socket.socket] = []
+
+
+def answered(listener: socket.socket, sent: bytes, ends: list[tuple[int, bytes]]) -> None:
+    """Accepts an association as a server, sends these bytes in the place of an answer, and notes the last PDU of the peer."""
+    wire = strangers.Reporter.__new__(strangers.Reporter)
+    wire.use(listener.accept()[0])
+    wire.socket.settimeout(LIMIT)
+    _, asked = wire.pdu()
+    wire.socket.sendall(strangers.acceptance(asked))
+    ends.append(wire.ended(sent))
+
+
+def try_wrong_server(results: Results) -> None:
+    """Tries commands with a server that answers what can't be read, or too much."""
+    for name, sent, told in strangers.ANSWERS:
+        for words in (["echo"], ["find"], ["get", "1.2.3"], ["export"]):
+            with socket.create_server(("127.0.0.1", 0)) as listener:
+                ends: list[tuple[int, bytes]] = []
+                thread = threading.Thread(target=answered, args=(listener, sent, ends), daemon=True)
+                thread.start()
+                ran = run(*words, "--port", str(listener.getsockname()[1]), "--timeout", "20")
+                thread.join(LIMIT)
+            fault = wrong(ran, NO_ANSWER, told) or (ran.error if "Traceback" in ran.error else None)
+            fault = fault or (None if ends and ends[0][0] == strangers.ABORTED else f"it ends with {ends}")
+            results.tell(f"{words[0]}, answered by {name}", fault)
+
+
 def try_suspend(results: Results, place: list[str], watch: list[str]) -> None:
     """Tries whether a watcher that has suspended is told of the steps that it watched before, and of no others."""
     asked = [["suspend", "--receiver", "WATCHER"], ["create", "1.2.8.9"], ["claim", "1.2.8.0", *HOLDER]]
@@ -691,6 +898,12 @@ def main() -> None:
         try_moving(results, asked.program, folder)
         try_scripts(results, asked.program, folder)
         try_health(results, asked.program, folder)
+        try_words(results, folder)
+    try_strangers(results)
+    try_allowed(results)
+    try_slow(results)
+    try_wrong_server(results)
+    try_board(results, asked.program)
     try_watch(results, asked.program)
     try_announce(results)
     results.end("the client `ups`")

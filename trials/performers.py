@@ -9,6 +9,8 @@ machine, and ends by itself. It prints a line for each trial, and then `N passed
     a step       in the order of priority and start; what its command gets; what a final state needs; a command that fails, that is
                  not there, and that is stopped; steps that are not ready, and of other worklists; a request to cancel the step;
                  a server that comes later
+    strangers    what they send to a performer that listens, and requests to cancel that they forge, end no command; a request whose
+                 reason the step's character set lacks does
     many         four performers do 500 steps, each once; one of them is killed in the middle of a step, and `ups status` names that
                  step, which a supervisor then cancels by the Transaction UID that the performer printed
 """
@@ -26,8 +28,10 @@ import tempfile
 import time
 from typing import Any, Optional
 
-sys.path.insert(0, os.path.join(os.path.dirname(os.path.dirname(os.path.abspath(__file__))), "check/lib"))
+TOP = os.path.dirname(os.path.dirname(os.path.abspath(__file__)))
+sys.path[:0] = [os.path.join(TOP, it) for it in ("check/lib", "trials/lib")]
 import dicom
+import strangers
 from machine import HERE, free_port, holds, install, listens
 from peer import PUSH_ON, Peer, a_step
 from results import Results
@@ -159,6 +163,32 @@ def try_request(results: Results, port: int, listen: int, folder: str) -> None:
                  None if told == (FAILED, "CANCELED", "asked for, patient has left") else str(told))
 
 
+def try_strangers(results: Results, port: int, listen: int, folder: str) -> None:
+    """Tries what strangers send to a performer that does a step, and then a right request."""
+    path, uid = os.path.join(folder, "held"), "1.2.23.2"
+    ups(port, "create", uid, "-k", "SpecificCharacterSet=ISO_IR 100", "--patient-name", "MÜLLER")
+    performer = started(port, "work", "--ae", "PERFORM1", "--listen", str(listen), "--allow", "127.0.0.1", "--", "sh", "-c",
+                        f"touch {path}; exec sleep 600", stdout=subprocess.DEVNULL, stderr=subprocess.DEVNULL)
+    holds(lambda: os.path.exists(path), LIMIT)
+    for each in strangers.STRANGERS:
+        results.tell(f"{each.name} ends its association alone", strangers.sent(listen, b"PERFORM1", each))
+    for called, calling, why in ((b"OTHER", b"UPSD", strangers.TITLE_UNKNOWN), (b"PERFORM1", b"OTHER", strangers.CALLER_UNKNOWN)):
+        fault = strangers.rejected(listen, called, calling, why)
+        results.tell(f"{calling!r} that calls {called!r} is rejected", fault)
+    fault = strangers.told(listen, b"PERFORM1", b"1.2.23.9", strangers.CANCEL)
+    results.tell("a request about another step is taken", fault)
+    fault = strangers.told(listen, b"PERFORM1", uid.encode(), strangers.CANCEL, source="127.0.0.2")
+    results.tell("a forged one of an address that --allow does not name is not", None if fault else "it is")
+    time.sleep(1)
+    results.tell("the command goes on", None if performer.poll() is None else f"it ended with {performer.poll()}")
+    results.tell("a right request behind all", wrong(ups(port, "cancel", uid, "--reason", "nüchtern, 断食"), DONE))
+    ended = performer.wait(LIMIT)
+    step = steps(port)[uid]
+    told = (ended, first(step, STATE), first(step, PROGRESS, "00741238"))
+    fault = None if told == (FAILED, "CANCELED", "asked for, n?chtern, ??") else str(told)
+    results.tell("ends the command, with what the step's character set can say of the reason", fault)
+
+
 def try_restart(results: Results, program: list[str]) -> None:
     """Tries a performer that goes on while its server is away."""
     port = free_port()
@@ -258,6 +288,7 @@ def main() -> None:
         try_command(results, server.port)
         try_failure(results, server.port)
         try_request(results, server.port, listen, folder)
+        try_strangers(results, server.port, listen, folder)
     try_restart(results, asked.program)
     with tempfile.TemporaryDirectory() as folder, Server(asked.program, "--keep", "3600") as server:
         try_many(results, server.port, asked.steps, folder)

@@ -97,7 +97,7 @@ def environment() -> dict[str, str]:
 
 def plain(lines: list[str]) -> list[str]:
     """Returns the lines with the same word in place of each time."""
-    return [re.sub(r"\b\d{14}\b", "<moment>", line) for line in lines]
+    return [re.sub(r"\b\d{14}[+-]\d{4}\b", "<moment>", line) for line in lines]
 
 
 def last_line(said: str) -> str:
