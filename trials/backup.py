@@ -8,7 +8,8 @@ to be taken by a check, and each association goes on over them. The last of each
 once both files are copied, while it still stands still; it is then restored in the place of the store. So what was answered before
 is in the backup, and the checks of `kills` on the next server hold for it. Then backups fail: a `cp` that takes too long, a signal,
 another backup at the same time, a missing log, damaged files, a store that is open; each has to leave a server that goes on, and
-the store as it was.
+the store as it was. What a check refuses has to be kept. A check has the terms of the store's last run, and connects to none of its
+watchers. As root it must not follow what another account puts in its folder: links, a pipe, names that a restore might take.
 
 It prints a line for each kind of check, and then `N passed, M failed`. The exit status is 1 if any failed.
 """
@@ -18,27 +19,32 @@ from __future__ import annotations
 import argparse
 import contextlib
 import os
+import pwd
 import re
 import shutil
 import signal
+import socket
 import subprocess
 import sys
 import tempfile
 import time
-from typing import Iterator, Optional
+from typing import Callable, Iterator, Optional
 
 TOP = os.path.dirname(os.path.dirname(os.path.abspath(__file__)))
 sys.path[:0] = [os.path.join(TOP, it) for it in ("check/lib", "check")]
 import kills
 from machine import HERE, holds
+from peer import GLOBAL, subscribe
 from results import Results
-from stored import FAULTS, Client, Stored, a_step_of, bytes_in
+from stored import FAULTS, Client, Stored, a_step_of, bytes_in, make_store
 
 BACKUP = [sys.executable, os.path.join(HERE, "packaging/upsd-backup")]
 KEEP = ["--keep", kills.KEEP]
 LIVES = 0.4  # seconds of a server before, between and after its backups, at most
 BACKUPS = 3  # how many are made while a server serves, at most
 AWAY = 60.0  # seconds for a command
+OTHER = pwd.getpwnam("nobody")  # an account that is not root
+SECRET = b"SECRET" * 100
 
 
 class Place:
@@ -118,7 +124,8 @@ class Trial(kills.Trial):
             self.told("a backup of a server that goes on is taken", self.back_up(server))
             time.sleep(self.chance.random() * LIVES)
             self.told("and the server goes on", None if server.process.poll() is None else f"it ended: {server.log[-3:]}")
-        with self.place.copying(f'/bin/cp "$@" || exit 1\ncase $last in *-wal) kill -9 {server.pid} ;; esac'):
+        second = os.path.join(self.place.commands, "second")  # of two copies
+        with self.place.copying(f'/bin/cp "$@" || exit 1\n[ -e {second} ] && kill -9 {server.pid}; touch {second}'), removed(second):
             fault = self.back_up(server)
         server.process.wait(kills.SECONDS)
         if fault:
@@ -174,7 +181,7 @@ def failed(ran: subprocess.CompletedProcess[str], words: str) -> Optional[str]:
 def run_faults(place: Place, folder: str, results: Results) -> None:
     """Tries backups that fail, each of a server that goes on."""
     file = os.path.join(folder, "other")
-    with Stored(place.program, file, *KEEP) as server:
+    with Stored(place.program, file, *KEEP, "--idle", "600") as server:
         client, pid = Client(server.port), ["--pid", str(server.pid)]
         results.tell("the association begins", goes_on(client, 1))
         place.remove()
@@ -186,6 +193,13 @@ def run_faults(place: Place, folder: str, results: Results) -> None:
         results.tell("and the server goes on again", goes_on(client, 3))
         results.tell("a signal", ended_by_signal(place, server))
         results.tell("and the server goes on after it", goes_on(client, 4))
+        with as_program(place, "echo 'upsd: the store copy: no' >&2; exit 2"):
+            results.tell("a check that refuses", failed(place.run("make", *pid), "-refused is kept, but"))
+        kept = place.made()
+        results.tell("what it refuses is kept", None if len(kept) == 1 and kept[0].endswith("-refused") else str(kept))
+        ran = place.run("check", kept[0])
+        results.tell("and is good", None if ran.returncode == 0 else ran.stderr)
+        shutil.rmtree(kept[0])
         results.tell("nothing is left of these", None if not place.made() and not os.listdir(place.folder) else str(os.listdir(place.folder)))
         ran = place.run("make", *pid)
         results.tell("a backup", None if ran.returncode == 0 and "requests" in ran.stdout else ran.stdout + ran.stderr)
@@ -194,8 +208,113 @@ def run_faults(place: Place, folder: str, results: Results) -> None:
         results.tell("a check", None if ran.returncode == 0 and re.search(r": [1-9]\d* requests$", ran.stdout.strip()) else ran.stdout + ran.stderr)
         results.tell("a store that is open is not replaced", failed(place.run("restore", place.made()[0], "--store", file), "open"))
         results.tell("and its server goes on", goes_on(client, 6))
-    results.tell("without a server", failed(place.run("make", "--unit", "no-such.service"), "does not run"))
+    results.tell("without a server or a store", failed(place.run("make", "--store", file + ".none"), "No such file"))
+    ran = place.run("make", "--store", file)
+    results.tell("a stopped server is backed up", None if ran.returncode == 0 and "no server has it" in ran.stdout else ran.stdout + ran.stderr)
+    with Stored(place.program, file, *KEEP):
+        results.tell("but not a running one as if it were stopped", failed(place.run("make", "--store", file), "open"))
     run_damages(place, file, results)
+    run_terms(place, folder, results)
+    run_other(place, folder, results)
+
+
+@contextlib.contextmanager
+def as_program(place: Place, lines: str) -> Iterator[None]:
+    """Lets these lines of shell be the program of checks until it is left."""
+    path, was = os.path.join(place.commands, "program"), place.program
+    with open(path, "w", encoding="utf-8") as opened:
+        opened.write(f"#!/bin/sh\n{lines}\n")
+    os.chmod(path, 0o755)
+    place.program = [path]
+    try:
+        yield
+    finally:
+        place.program = was
+
+
+def run_terms(place: Place, folder: str, results: Results) -> None:
+    """Tries a store whose last run had a watcher, an offset and a lock: its check needs all of them, and must not connect to it."""
+    file = os.path.join(folder, "terms")
+    heard: list[bool] = []
+    with socket.create_server(("127.0.0.1", 0)) as listener:
+        listener.settimeout(1)
+        words = ["--keep", "3600", "--offset", "-300", f"W1=127.0.0.1:{listener.getsockname()[1]},lock"]
+        with Stored(place.program, file, *words) as server:
+            client = Client(server.port)
+            client.create(b"1.2.16.1", a_step_of(b"P1"))
+            results.tell("a lock", None if client.ask(subscribe(GLOBAL, b"W1", b"TRUE")) == 0 else "it is refused")
+        with contextlib.suppress(TimeoutError):
+            while True:
+                listener.accept()[0].close()  # what the server itself has begun
+        ran = place.run("make", "--store", file)
+        results.tell("a check with the terms of the last run", None if ran.returncode == 0 else ran.stderr)
+        with contextlib.suppress(TimeoutError):
+            listener.accept()[0].close()
+            heard.append(True)
+        results.tell("reports to nobody", "it connects to the watcher" if heard else None)
+
+
+# another account
+
+@contextlib.contextmanager
+def removed(path: str) -> Iterator[None]:
+    """Removes a file in the end."""
+    try:
+        yield
+    finally:
+        with contextlib.suppress(FileNotFoundError):
+            os.remove(path)
+
+
+def run_other(place: Place, folder: str, results: Results) -> None:
+    """Tries, as root, what another account may put in its folder for a program of root's to follow."""
+    home, secret = os.path.join(folder, "home"), os.path.join(folder, "secret")
+    os.chmod(folder, 0o755)
+    os.mkdir(home, 0o700)
+    store = os.path.join(home, "store")
+    make_store(place.program, store)
+    with open(secret, "wb") as opened:
+        opened.write(SECRET)
+    os.chmod(secret, 0o600)
+    for it in (home, store, store + "-wal"):
+        if os.path.exists(it):
+            os.chown(it, OTHER.pw_uid, OTHER.pw_gid)
+    place.remove()
+    words = ["setpriv", f"--reuid={OTHER.pw_uid}", f"--regid={OTHER.pw_gid}", "--clear-groups", *place.program]
+    server = Stored.__new__(Stored)
+    server.begin([*words, "serve", "--ae", "UPSD", "--port", "0", "--store", store, *KEEP], is_group=True)
+    server.await_port()
+    with server:
+        pid = ["--pid", str(server.pid)]
+        ran = place.run("make", *pid)
+        results.tell("a store of another account", None if ran.returncode == 0 else ran.stderr)
+        with as_program(place, "echo upsd: the store copy: by $(id -u) with $(id -G) >&2; exit 2"):
+            results.tell("is checked by that account", failed(place.run("make", *pid), f"by {OTHER.pw_uid} with {OTHER.pw_gid}"))
+        plants: dict[str, Callable[[str], None]] = {"a link": lambda path: os.symlink(secret, path), "a pipe": os.mkfifo,
+                                                    "a second name of root's file": lambda path: os.link(secret, path)}
+        for name, plant in plants.items():
+            os.rename(store + "-wal", store + "-away")
+            plant(store + "-wal")
+            ran = place.run("make", *pid)
+            results.tell(f"{name} in the place of the log is refused", None if ran.returncode == 1 else ran.stdout)
+            os.remove(store + "-wal")
+            os.rename(store + "-away", store + "-wal")
+        copies = [os.path.join(path, it) for path, _, names in os.walk(place.folder) for it in names]
+        results.tell("nothing of it is copied", None if all(SECRET not in read_bytes(it) for it in copies) else "it is")
+    for it in ("store.restored", "store.restored-wal", ".restored", "copy"):
+        os.symlink(secret, os.path.join(home, it))
+    ran = place.run("restore", place.made()[0], "--store", store)
+    results.tell("a restore past links", None if ran.returncode == 0 else ran.stderr)
+    told = os.stat(secret)
+    is_as_it_was = (told.st_uid, told.st_mode & 0o777, read_bytes(secret)) == (0, 0o600, SECRET)
+    results.tell("leaves what they name as it was", None if is_as_it_was else f"{told}")
+    owners = {os.stat(it).st_uid for it in (store, store + "-wal")}
+    results.tell("and gives the store to its account", None if owners == {OTHER.pw_uid} else str(owners))
+
+
+def read_bytes(path: str) -> bytes:
+    with open(path, "rb") as opened:
+        return opened.read()
 
 
 def ended_by_signal(place: Place, server: Stored) -> Optional[str]:

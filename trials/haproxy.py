@@ -7,8 +7,9 @@ It takes the configuration as it is, with free ports of this machine in place of
 in a temporary folder, and with checks each second. Through HAProxy examples/ups.py then works at both servers, by the called
 title; by plain TCP from the address of its title, and by TLS with a certificate of its title, through a tunnel of `stunnel`, which
 also takes the report that HAProxy sends to the watcher. Other titles, addresses, certificates and bytes get no answer and don't
-reach a server. A server that stands still, and one whose store takes no change, is down until it goes on. An address has no more
-connections than it may have.
+reach a server. A server that stands still, and one whose store takes no change, is down until it goes on. A full house, of more
+associations than a server has workers, from several addresses, which ask each few seconds, is up, and those beyond HAProxy's share
+wait. An address has no more connections than it may have.
 
 It installs what is missing (`apt-get install -y haproxy stunnel4 openssl python3-pydicom`, which needs root), and ends by itself.
 It prints a line for each trial, and then `N passed, M failed`. The exit status is 1 if any failed.
@@ -29,10 +30,13 @@ import tempfile
 import time
 from typing import Iterator, Optional
 
-sys.path.insert(0, os.path.join(os.path.dirname(os.path.dirname(os.path.abspath(__file__))), "check/lib"))
+TOP = os.path.dirname(os.path.dirname(os.path.abspath(__file__)))
+sys.path[:0] = [os.path.join(TOP, it) for it in ("check/lib", "trials/lib")]
 from client import no_file_grows
 from dicom import IMPLICIT, PULL, associate, get
+from house import House
 from machine import HERE, free_port, holds, install, listens
+from peer import connect
 from results import Results
 from server import Server
 from stock import DONE, NO_ANSWER, by_client
@@ -43,9 +47,12 @@ CONFIGURATION = os.path.join(HERE, "packaging/haproxy.cfg")
 PLAIN, TLS, CT, MR, WATCH, WATCHER_TLS = 11112, 2762, 11131, 11132, 11121, 2763
 TITLES = {CT: "UPSD_CT", MR: "UPSD_MR"}
 CALLING = "CT1"  # whose address and certificate are known
-PEERS = f"{CALLING}=127.0.0.1\nCT2=192.0.2.22\n"
+WORKERS, SERVED = 16, 14  # of a server, and how many connections HAProxy gives it
+GUESTS = 18  # of a full house: on four at an address
+PEERS = f"{CALLING}=127.0.0.1\nCT2=192.0.2.22\n" + "".join(f"GUEST{at}=127.0.1.{at // 4 + 1}\n" for at in range(GUESTS))
 HOLDER = ["--transaction", "2.25.7"]
-CONNECTIONS, BEGUN, SECONDS = 16, 60, 10  # how many an address may have, and begin in so many seconds
+CONNECTIONS, BEGUN, SECONDS = 4, 60, 10  # how many an address may have, and begin in so many seconds
+HOUSE = 20.0  # seconds of a full house
 SILENT = 5  # seconds for an association request
 CHECKED = 8  # seconds in which a check tells a server that is down from one that is up
 
@@ -225,6 +232,26 @@ def checks(proxy: Proxy, servers: list[Titled], entry: int, results: Results) ->
     results.tell("it is up when its store goes on", None if holds(lambda: proxy.is_up(TITLES[CT]), 2 * CHECKED) else "it is down")
 
 
+def full_house(proxy: Proxy, entry: int, results: Results) -> None:
+    """Tries whether a server stays up whose associations ask each few seconds, and take all that HAProxy has for them."""
+    house = House([(lambda at=at: connect(entry, 120, source=f"127.0.1.{at // 4 + 1}"), b"GUEST%d" % at, TITLES[MR].encode())
+                   for at in range(GUESTS)], 3.0)
+    try:
+        is_full = holds(lambda: house.count() == SERVED, 10)
+        results.tell("a full house: as many are served as HAProxy gives", None if is_full else f"{house.count()}: {house.faults[:2]}")
+        before, up, until = sum(house.answers), [], time.monotonic() + HOUSE
+        while time.monotonic() < until:
+            up.append(proxy.is_up(TITLES[MR]))
+            time.sleep(0.5)
+        results.tell("a full house stays up", None if all(up) else f"it is down in {up.count(False)} of {len(up)} looks")
+        results.tell("none of it ends", "; ".join(house.faults[:3]) or None)
+        asked = sum(house.answers) - before
+        results.tell("and each is answered", None if asked >= SERVED * (HOUSE / 3 - 2) else f"{asked} answers in {HOUSE:g} s")
+        results.tell("the others wait", None if house.count() == SERVED else f"{house.count()} are served")
+    finally:
+        house.stop()
+
+
 def begun(entry: int, stack: contextlib.ExitStack) -> Optional[socket.socket]:
     """Begins a connection, and returns it, or None if it is refused."""
     try:
@@ -289,9 +316,13 @@ def trials(program: list[str], folder: str, results: Results) -> None:
         refusals(ports[PLAIN], servers, results)
         over_tls(folder, ports, results)
         checks(proxy, servers, ports[PLAIN], results)
+        full_house(proxy, ports[PLAIN], results)
         rates(ports[PLAIN], results)
-        line = f"{CALLING} calls {TITLES[CT]} {TITLES[CT]} "
-        results.tell("the log has both titles", None if line in proxy.log() else proxy.log()[-500:])
+        line = rf"{CALLING} calls {TITLES[CT]} {TITLES[CT]} as (127\.0\.0\.1:\d+) "
+        told = re.findall(line, proxy.log())
+        results.tell("the log has both titles", None if told else proxy.log()[-500:])
+        joined = [it for it in told if any(f" {CALLING} {it}" in known for known in servers[0].log)]
+        results.tell("and the address that the server's log has", None if joined else f"{told[:3]}, and {servers[0].log[-3:]}")
 
 
 def main() -> None:

@@ -7,13 +7,15 @@
     trials/package.py --root FOLDER    takes the bare Debian of a folder, and makes it there if there is none
 
 Two builds must be equal, `lintian` may find no error and no warning, `systemd-analyze security` may say at most 2.0, and the
-synopsis of upsd(8) must have the options of each --help. Then `debootstrap` makes a Debian 12 with systemd (some 300 MB from
+synopsis of upsd(8) must have the options of each --help. The package's file PROVED has to have the program's sum. Then `debootstrap` makes a Debian 12 with systemd (some 300 MB from
 deb.debian.org), and `systemd-nspawn` boots it, with a network of its own. There the package is installed with what it depends
 on; the unit, as it is but for the words in /etc/default/upsd, runs the tour of README.md through `ups`; a restart, a reload,
 an upgrade, a hangup, a wrong word, a removal and a purge must do what the package says. `systemd-analyze verify` may say
 nothing of the units. The unit of the backup makes one, which is restored, and leaves a server that goes on if it is killed. With
 the lines for a cluster the unit starts on a mounted volume alone, and the resource agent starts, asks and stops it (without a
-cluster). In the end nothing of the package may be left.
+cluster): a full house runs, and one whose store takes nothing does not. A package with a stand-in for an earlier version, on the
+stored store of 0.2.0, is upgraded, which makes a backup before, and that one brings both back; where the new version refuses the
+options, the earlier server goes on. In the end nothing of the package may be left but the store and a locked account.
 
 It installs what is missing (lintian, debootstrap, systemd-container, man-db, python3-pydicom) and needs root. It prints a line
 for each trial, and then `N passed, M failed`. The exit status is 1 if any failed.
@@ -23,6 +25,7 @@ from __future__ import annotations
 
 import argparse
 import contextlib
+import hashlib
 import os
 import re
 import shlex
@@ -30,11 +33,12 @@ import shutil
 import subprocess
 import sys
 import tempfile
+import time
 from typing import Iterator, Optional
 from xml.etree import ElementTree
 
 sys.path.insert(0, os.path.join(os.path.dirname(os.path.dirname(os.path.abspath(__file__))), "check/lib"))
-from machine import HERE, holds, install
+from machine import HERE, PYTHON, holds, install
 from results import Results
 import tour
 
@@ -43,7 +47,12 @@ TOOLS = {"lintian": "lintian", "debootstrap": "debootstrap", "systemd-nspawn": "
 MIRROR = "http://deb.debian.org/debian"
 MOST_EXPOSED = 2.0
 STORE = "/var/lib/upsd/upsd.db"
+VOLUME = "/var/lib/upsd-volume"  # of a cluster
 BACKUPS = "/var/backups/upsd"
+COLLECTED = "/var/lib/prometheus/node-exporter"
+STORED = os.path.join(HERE, "rows/stores/0.2.0/store")
+STORED_WORDS = f"--ae UPSD --port {tour.SERVER_PORT} --bind 127.0.0.1 --keep 1 --offset 60 --store {STORE} WATCH1=127.0.0.1:35611,lock"
+LOADED = "/root/loaded"  # where a program of root's would write what it loads, if the unit's environment told it to
 UNITS = ("upsd-backup.service", "upsd-backup.timer", "upsd.service")
 BESIDES = ("dbus", "iproute2")  # what a Debian has: `systemctl freeze` calls the one, and a cluster's unit has `ss` of the other
 AGENT = "/usr/lib/ocf/resource.d/upsd/upsd"
@@ -73,7 +82,8 @@ def unless(holds_so: bool, fault: str) -> Optional[str]:
 
 def built(program: str, folder: str) -> str:
     """Builds a package into a folder, and returns its path."""
-    ran = run("packaging/build", "--program", program, "--output", folder)
+    with_rt = {**QUIET, "PATH": f"{QUIET['PATH']}:{os.environ['PATH']}"}  # which tells whether the program is proved
+    ran = subprocess.run(["packaging/build", "--program", program, "--output", folder], capture_output=True, text=True, env=with_rt, cwd=HERE)
     if ran.returncode:
         sys.exit(f"package.py: it can't be built: {tour.last_line(ran.stderr)}")
     return ran.stdout.strip()
@@ -164,6 +174,20 @@ class Machine:
         """Returns a property of the unit."""
         return self.says("systemctl", "show", "--property", name, "--value", "upsd.service")
 
+    @contextlib.contextmanager
+    def full_house(self, *more: str) -> Iterator[str]:
+        """Keeps a full house at the server, by a script of this machine in the other's network; yields its first line."""
+        words = ["nsenter", "-t", self.leader, "-n", PYTHON, os.path.join(HERE, "trials/lib/house.py"), str(tour.SERVER_PORT), *more]
+        with subprocess.Popen(words, stdin=subprocess.PIPE, stdout=subprocess.PIPE, text=True, env=QUIET) as house:
+            assert house.stdin and house.stdout
+            try:
+                yield house.stdout.readline().strip()
+            finally:
+                house.stdin.close()
+                with contextlib.suppress(subprocess.TimeoutExpired):
+                    house.wait(5)
+                house.kill()
+
     def has_booted(self, pid: int) -> bool:
         children = run("pgrep", "-P", str(pid)).stdout.split()
         self.leader = children[0] if children else ""
@@ -224,6 +248,11 @@ def try_installation(machine: Machine, results: Results) -> None:
     results.tell("the man pages", man_pages(machine.root))
     owner = owners(machine)
     results.tell("the first installation makes a store", unless(owner == "upsd 600\nupsd 700", owner))
+    told = machine.says("cat", "/usr/share/doc/upsd/PROVED")
+    total = hashlib.sha256(content(machine.path("usr/bin/upsd"))).hexdigest()
+    results.tell("PROVED has its sum", unless(f"sha256 of /usr/bin/upsd: {total}\n" in f"{told}\n", told))
+    found = machine.of_unit("LogRateLimitIntervalUSec"), machine.of_unit("TimeoutStartUSec")
+    results.tell("no line is dropped, and a long start goes on", unless(found == ("0", "15min"), str(found)))
 
 
 def owners(machine: Machine) -> str:
@@ -286,8 +315,12 @@ def try_unit(machine: Machine, commands: list[tour.Command], results: Results) -
     results.tell("a restart loses nothing", unless(found == held and "1 found" in held, f"{found!r} and not {held!r}"))
     try_reload(machine, commands, results)
     before = machine.of_unit("MainPID")
-    results.tell("upgrade", fault_of(machine.run("dpkg", "--install", "--force-confold", "/root/upsd.deb")) or listens(machine))
-    results.tell("an upgrade restarts what runs", unless(machine.of_unit("MainPID") != before, f"it is still {before}"))
+    results.tell("upgrade", fault_of(machine.run("dpkg", "--install", "--force-confold", "/root/upsd.deb")))
+    is_new = holds(lambda: machine.of_unit("MainPID") not in (before, "0"), 20)
+    results.tell("an upgrade restarts what runs", unless(is_new, f"it is still {before}") or listens(machine))
+    made = machine.says("ls", BACKUPS).split()
+    results.tell("and backs it up before", unless(len(made) == 1, " ".join(made)))
+    machine.run("rm", "-r", BACKUPS)
     errors = machine.says("journalctl", "--quiet", "--unit=upsd", "--priority=err", "_COMM=upsd")
     results.tell("the log has no error", unless(not errors, errors))
     ran = machine.run("runuser", "-u", "upsd", "--", "upsd", "compact", STORE)
@@ -303,8 +336,16 @@ def try_reload(machine: Machine, commands: list[tour.Command], results: Results)
     results.tell("and the server goes on", unless(machine.of_unit("MainPID") == before, "it was restarted") or listens(machine))
     has_words(machine, serve_words(commands))
     results.tell("reload", fault_of(machine.run("systemctl", "reload", "upsd.service")) or listens(machine))
+    holds(lambda: machine.of_unit("MainPID") not in (before, "0"), 20)
     found = machine.of_unit("MainPID"), machine.of_unit("NRestarts")
     results.tell("a reload is a restart", unless(found[0] not in (before, "0") and found[1] == "0", f"{found}, and {before} before"))
+    write(machine.path("etc/default/upsd"), f'UPSD_OPTIONS="{serve_words(commands)}"\nLD_DEBUG=libs\nLD_DEBUG_OUTPUT={LOADED}\n')
+    for _ in range(2):  # the first one gives the server this environment
+        results.tell("reload with an environment", fault_of(machine.run("systemctl", "reload", "upsd.service")) or listens(machine))
+        time.sleep(1)
+    found = machine.says("sh", "-c", f"ls {LOADED}*").split()
+    results.tell("root loads and writes nothing that it names", unless(not found, " ".join(found)))
+    has_words(machine, serve_words(commands))
 
 
 def try_ends(machine: Machine, commands: list[tour.Command], results: Results) -> None:
@@ -344,7 +385,13 @@ def service_of_backup(machine: Machine) -> str:
 def try_backup(machine: Machine, results: Results) -> None:
     """Makes a backup by its unit, restores it, and kills the program that makes one."""
     held = machine.says("ups", "find")
-    results.tell("a backup", fault_of(machine.run("systemctl", "start", "upsd-backup.service")))
+    machine.run("mkdir", "-p", COLLECTED)
+    before = time.time() - 1
+    ran = machine.run("systemctl", "start", "upsd-backup.service")
+    said = machine.says("journalctl", "--quiet", "--unit=upsd-backup", "--output=cat", "--lines=5")
+    results.tell("a backup", fault_of(ran) and f"{fault_of(ran)}: {said}")
+    told = re.search(r"(?m)^upsd_backup_timestamp_seconds (\d+)$", machine.says("cat", f"{COLLECTED}/ups-backup.prom"))
+    results.tell("its time is told", unless(bool(told) and before <= int(told[1]) + 1 <= time.time() + 1, str(told)))
     made = machine.says("ls", BACKUPS).split()
     results.tell("there is one", unless(len(made) == 1, " ".join(made)))
     backup = f"{BACKUPS}/{made[0] if made else 'none'}"
@@ -364,6 +411,10 @@ def try_backup(machine: Machine, results: Results) -> None:
     owner = owners(machine)
     results.tell("the restored store is the user's alone", unless(owner == "upsd 600\nupsd 700", owner))
     try_killed_backup(machine, results)
+    machine.run("systemctl", "stop", "upsd.service")
+    ran = machine.run("systemctl", "start", "upsd-backup.service")
+    results.tell("a server that is stopped is backed up", fault_of(ran) or unless(len(machine.says("ls", BACKUPS).split()) >= 3, "it is not"))
+    results.tell("and starts again", fault_of(machine.run("systemctl", "start", "upsd.service")) or listens(machine))
     machine.run("sh", "-c", f"rm -r {BACKUPS} {STORE}.before-* {STORE}-wal.before-*")
     results.tell("the timer", fault_of(machine.run("systemctl", "enable", "--now", "upsd-backup.timer")))
 
@@ -396,32 +447,124 @@ def try_cluster(machine: Machine, commands: list[tour.Command], results: Results
     """Tries the unit with the lines for a cluster, and the resource agent, without a cluster."""
     said = machine.says(AGENT, "meta-data")
     results.tell("the agent's metadata", unless(ElementTree.fromstring(said).get("name") == "upsd", said))
-    folder, volume = DROP_INS.format("upsd.service"), os.path.dirname(STORE)
+    folder, store = DROP_INS.format("upsd.service"), f"{VOLUME}/upsd/upsd.db"
     machine.run("systemctl", "stop", "upsd.service")
     has_words(machine, "--ae UPSD")  # which would end a start: the options are those of the volume
-    machine.run("sh", "-c", f"mkdir -p {folder} && cp /usr/share/doc/upsd/examples/cluster/cluster.conf {folder} && systemctl daemon-reload")
+    machine.run("sh", "-c", f"mkdir -p {folder} {VOLUME} && cp /usr/share/doc/upsd/examples/cluster/cluster.conf {folder} && systemctl daemon-reload")
     ran = machine.run("systemd-analyze", "verify", "--man=no", "upsd.service")
     results.tell("a cluster's lines: systemd-analyze verify", fault_of(ran) or unless(not ran.stderr, ran.stderr))
     statuses = agent(machine, "monitor"), agent(machine, "start"), agent(machine, "stop")
     results.tell("no start without the volume", unless(statuses == (RUNS_NOT, FAILS, RUNS), str(statuses)))
-    ran = machine.run("sh", "-c", f"mkdir /root/away && cp -a {volume}/. /root/away && mount -t tmpfs -o mode=700 none {volume} && "
-                      f"cp -a /root/away/. {volume} && chown upsd: {volume} && rm -r /root/away")
+    ran = machine.run("systemctl", "start", "upsd-backup.service")
+    said = machine.says("journalctl", "--quiet", "--unit=upsd-backup", "--output=cat", "--lines=5")
+    results.tell("a backup has nothing to do there", fault_of(ran) or unless(f"nothing is mounted at {VOLUME}" in said, said))
+    is_there = os.path.exists(machine.path(f"{COLLECTED}/ups-backup.prom"))
+    results.tell("and tells no time", unless(not is_there, "it does"))
+    ran = machine.run("sh", "-c", f"mount -t tmpfs -o mode=755,size=40m none {VOLUME} && install -d -o upsd -g upsd -m 700 {VOLUME}/upsd && "
+                      f"cp -p {STORE} {STORE}-wal {VOLUME}/upsd")
     results.tell("the volume is mounted", fault_of(ran))
-    write(machine.path("root/upsd.options"), f'UPSD_OPTIONS="{serve_words(commands)}"\n')
-    machine.run("cp", "/root/upsd.options", f"{volume}/upsd.options")
+    write(machine.path("root/upsd.options"), f'UPSD_OPTIONS="{serve_words(commands).replace(STORE, store)}"\n')
+    machine.run("cp", "/root/upsd.options", f"{VOLUME}/upsd.options")
     statuses = agent(machine, "start"), agent(machine, "monitor")
     results.tell("a start on the volume", unless(statuses == (RUNS, RUNS), f"{statuses}"))
+    ran = machine.run("systemctl", "start", "upsd-backup.service")
+    results.tell("a backup of the volume", fault_of(ran))
     machine.run("systemctl", "kill", "--signal=STOP", "upsd.service")
     found = agent(machine, "monitor", 2)
     machine.run("systemctl", "kill", "--signal=CONT", "upsd.service")
     results.tell("a server that stands still fails its monitor", unless(found == FAILS, f"status {found}"))
     results.tell("one that goes on does not", unless(agent(machine, "monitor") == RUNS, "it does"))
+    try_full_house(machine, results)
     machine.run("systemctl", "kill", "--signal=KILL", "upsd.service")
     is_down = holds(lambda: agent(machine, "monitor") == RUNS_NOT, 10)
     results.tell("systemd does not restart it", unless(is_down, machine.of_unit("ActiveState")))
     statuses = agent(machine, "start"), agent(machine, "stop"), agent(machine, "monitor")
     results.tell("the agent does, and stops it", unless(statuses == (RUNS, RUNS, RUNS_NOT), str(statuses)))
-    machine.run("sh", "-c", f"umount {volume}; rm -r {folder} /root/upsd.options; systemctl daemon-reload; systemctl reset-failed upsd.service")
+    machine.run("sh", "-c", f"umount {VOLUME}; rm -r {folder} {VOLUME} /root/upsd.options {BACKUPS} {os.path.dirname(COLLECTED)}; "
+                "systemctl daemon-reload; systemctl reset-failed upsd.service")
+
+
+def try_full_house(machine: Machine, results: Results) -> None:
+    """Tries the agent while each worker has an association that asks every few seconds, and while each waits for the store."""
+    before = machine.of_unit("MainPID")
+    with machine.full_house("--every", "4") as said:
+        is_full = holds(lambda: "16 of 16 workers" in machine.of_unit("StatusText"), 10)
+        results.tell("a full house", unless(is_full, f"{said}: {machine.of_unit('StatusText')}"))
+        found = agent(machine, "monitor", 5), agent(machine, "start", 5)
+        results.tell("it is running, for the agent", unless(found == (RUNS, RUNS), f"{found}: {machine.of_unit('StatusText')}"))
+    results.tell("it was not restarted", unless(machine.of_unit("MainPID") == before, "it was"))
+    holds(lambda: "; 0 of 16 workers" in machine.of_unit("StatusText"), 70)
+    machine.run("sh", "-c", f"head -c 60m /dev/zero > {VOLUME}/ballast")
+    with machine.full_house("--create") as said:
+        holds(lambda: "16 of 16 workers" in machine.of_unit("StatusText"), 20)
+        found = agent(machine, "monitor", 5)
+        results.tell("a full house whose store takes nothing fails its monitor", unless(found == FAILS, f"{found}: {machine.of_unit('StatusText')}"))
+        machine.run("rm", f"{VOLUME}/ballast")
+    goes_on = holds(lambda: agent(machine, "monitor", 5) == RUNS, 90)
+    results.tell("and runs once there is room", unless(goes_on, machine.of_unit("StatusText")))
+
+
+# an upgrade, and back
+
+def make_earlier(machine: Machine) -> None:
+    """Makes the package of an earlier version there: that of this one with a stand-in for the program, which is a script."""
+    with tempfile.TemporaryDirectory(prefix="upsd-earlier-") as folder:
+        tree = os.path.join(folder, "tree")
+        subprocess.run(["dpkg-deb", "--raw-extract", machine.path("root/upsd.deb"), tree], check=True)
+        shutil.copy(os.path.join(HERE, "trials/lib/earlier.py"), os.path.join(tree, "usr/bin/upsd"))
+        os.chmod(os.path.join(tree, "usr/bin/upsd"), 0o755)
+        for path, pattern, new in (("DEBIAN/control", r"(?m)^Version: .*$", "Version: 0.1.0"),
+                                   ("lib/systemd/system/upsd.service", r"(?m)^(NoExec|Exec)Paths=.*\n", "")):
+            with open(os.path.join(tree, path), encoding="utf-8") as text:
+                changed = re.sub(pattern, new, text.read())
+            write(os.path.join(tree, path), changed)
+        subprocess.run(["dpkg-deb", "--build", "--root-owner-group", tree, machine.path("root/earlier.deb")], check=True, stdout=subprocess.DEVNULL)
+
+
+def has_store(machine: Machine, path: str) -> None:
+    """Puts a stored store in the place of the machine's."""
+    shutil.copy(path, machine.path("root/stored"))
+    machine.run("sh", "-c", f"rm -f {STORE}*; cp /root/stored {STORE}; : > {STORE}-wal; chmod 600 {STORE}*; chown upsd: {STORE}*; rm /root/stored")
+
+
+def installs(machine: Machine, name: str) -> subprocess.CompletedProcess[str]:
+    return machine.run("dpkg", "--install", "--force-confold", "--force-downgrade", f"/root/{name}.deb")
+
+
+def try_upgrade(machine: Machine, results: Results) -> None:
+    """Upgrades a package with a stand-in for an earlier version, on a store of 0.2.0, and goes back."""
+    machine.run("systemctl", "stop", "upsd.service")
+    make_earlier(machine)
+    has_store(machine, STORED)
+    has_words(machine, STORED_WORDS)
+    results.tell("an earlier version", fault_of(installs(machine, "earlier")) or fault_of(machine.run("systemctl", "start", "upsd.service")))
+    before = machine.of_unit("MainPID")
+    has_words(machine, f"{STORED_WORDS} --keep never")
+    ran = installs(machine, "upsd")
+    results.tell("an upgrade whose options are refused", fault_of(ran) or unless("goes on with the version from before" in ran.stderr, ran.stderr))
+    results.tell("the earlier server goes on", unless(machine.of_unit("MainPID") == before, machine.of_unit("ActiveState")))
+    has_words(machine, STORED_WORDS)
+    installs(machine, "earlier")
+    machine.run("sh", "-c", f"systemctl restart upsd.service; rm -r {BACKUPS}")
+    ran = installs(machine, "upsd")
+    results.tell("an upgrade of 0.2.0", fault_of(ran) or unless("goes on" not in ran.stderr, ran.stderr) or listens(machine))
+    found = machine.says("ups", "find")
+    results.tell("has the steps of its store", unless("1.2.3.4.4" in found, found))
+    backup = f"{BACKUPS}/{machine.says('ls', BACKUPS)}"
+    is_same = content(machine.path(f"{backup}/upsd.db")) == content(STORED)
+    results.tell("there is a backup of before", unless(is_same, backup))
+    results.tell("which this version takes", fault_of(machine.run("upsd-backup", "check", backup)))
+    machine.run("systemctl", "stop", "upsd.service")
+    results.tell("the earlier version again", fault_of(installs(machine, "earlier")))
+    ran = machine.run("systemctl", "start", "upsd.service")
+    refused = holds(lambda: machine.of_unit("ExecMainStatus") == "2", 10)
+    results.tell("refuses the new format", unless(refused, machine.of_unit("ActiveState")))
+    results.tell("and has its store back", fault_of(machine.run("upsd-backup", "restore", backup)) or comes_to(machine, "active"))
+    is_same = content(machine.path(STORE)) == content(STORED)
+    results.tell("as it was", unless(is_same, "it is another one"))
+    machine.run("systemctl", "stop", "upsd.service")
+    results.tell("the version of today", fault_of(installs(machine, "upsd")))
+    machine.run("sh", "-c", f"rm -r {BACKUPS} {STORE}* /root/earlier.deb; runuser -u upsd -- upsd init {STORE}; systemctl reset-failed upsd.service")
 
 
 def try_missing(machine: Machine, results: Results) -> None:
@@ -440,12 +583,12 @@ def try_missing(machine: Machine, results: Results) -> None:
 
 
 def try_port(machine: Machine, results: Results) -> None:
-    """Tries whether the unit takes DICOM's port, without the line that it names for that and with it."""
+    """Tries whether the unit takes DICOM's port, without the lines that it names for that and with them."""
     has_words(machine, "--ae UPSD --port 104")
     machine.run("systemctl", "start", "upsd.service")
     refused = holds(lambda: machine.of_unit("ExecMainStatus") == "2", 10)
     results.tell("port 104 wants a capability", unless(refused, machine.of_unit("ActiveState")))
-    has_line(machine, "port", "AmbientCapabilities=CAP_NET_BIND_SERVICE")
+    has_line(machine, "port", r"AmbientCapabilities=CAP_NET_BIND_SERVICE\nCapabilityBoundingSet=CAP_NET_BIND_SERVICE\nPrivateUsers=no")
     machine.run("systemctl", "restart", "upsd.service")
     results.tell("port 104", listens(machine, "--port", "104"))
     machine.run("systemctl", "stop", "upsd.service")
@@ -460,10 +603,12 @@ def try_removal(machine: Machine, before: set[str], results: Results) -> None:
     results.tell("a removal keeps words, store and what was enabled alone", unless(left == kept, f"{sorted(left ^ kept)}"))
     runs = "upsd" in machine.says("sh", "-c", "cat /proc/[0-9]*/comm").split()
     results.tell("a removal ends the server", unless(not runs, "it runs"))
-    results.tell("purge", fault_of(machine.run("dpkg", "--purge", "upsd")))
+    ran = machine.run("dpkg", "--purge", "upsd")
+    results.tell("purge", fault_of(ran) or unless("/var/lib/upsd stays" in ran.stderr, ran.stderr))
     left = machine.paths() ^ before
-    results.tell("a purge leaves nothing", unless(not left, f"{sorted(left)}"))
-    results.tell("nor the user", unless(machine.run("id", "upsd").returncode != 0, "there is one"))
+    results.tell("a purge leaves the store", unless(left == {"var/lib/upsd", "var/lib/upsd/upsd.db", "var/lib/upsd/upsd.db-wal"}, f"{sorted(left)}"))
+    expires = machine.says("getent", "shadow", "upsd").split(":")
+    results.tell("and the account, which is locked", unless(expires[7:8] == ["1"], ":".join(expires)))
 
 
 def try_in(root: str, package: str, is_checked: bool, results: Results) -> None:
@@ -481,6 +626,7 @@ def try_in(root: str, package: str, is_checked: bool, results: Results) -> None:
         try_backup(machine, results)
         try_ends(machine, commands, results)
         try_cluster(machine, commands, results)
+        try_upgrade(machine, results)
         has_words(machine, serve_words(commands))
         results.tell("start without the cluster's lines", fault_of(machine.run("systemctl", "start", "upsd.service")) or listens(machine))
         try_removal(machine, before, results)

@@ -15,6 +15,7 @@ still reach it when it is cut off.
     power        the process of the primary's QEMU is killed: a machine without power
     cut          the primary's cable to the network of the cluster is pulled, and two workstations still reach it
     server       the server is killed
+    house        a full house: each worker has an association that asks every few seconds, for two and a half minutes. Nothing moves
     peer         the standby's QEMU is killed, and started again
     full         the volume is filled, and emptied again
     switch       the primary becomes the standby by a command
@@ -30,9 +31,10 @@ what each step is.
 What was run, on emulated processors (a host without KVM) that proofs shared, whose times are no hospital's: on 2026-11-29 `all`, from
 nothing in one go, in 46 minutes, with a program built without its proofs. 131 checks passed and none failed; 14,308 requests were
 answered before the faults. Reads were answered again within 79 s after power, 84 after cut, 9 after server, 55 after peer, 35 after
-full, 66 after switch, 51 after hypervisor, and 296 after pause, where two servers are found and both are stopped.
+full, 66 after switch, 51 after hypervisor, and 296 after pause, where two servers are found and both are stopped. The volume was
+mounted at the store's folder then, and belonged to the server's account.
 
-Not run: KVM.
+Not run: KVM; house, and all of it with the volume where it is mounted now.
 
 It needs root, and qemu-system-x86, qemu-utils, debootstrap, e2fsprogs, openssh-client and python3-pydicom. --work names the folder
 for the machines (one in memory, if the disk is busy), --program the program; --kvm runs the machines by KVM, and otherwise they are
@@ -55,16 +57,19 @@ TOP = os.path.dirname(os.path.dirname(os.path.abspath(__file__)))
 sys.path[:0] = [os.path.join(TOP, it) for it in ("check/lib", "check", "trials/lib")]
 import kills
 import stored
+from house import CALLED, House
 from machine import HERE, holds
-from machines import CLIENTS, FLOATING, OFFICE, PATIENCE, PORT, SPACE, Machine, are_alike, await_up, make, network, run, up
+from machines import (CLIENTS, FLOATING, OFFICE, PATIENCE, PORT, SPACE, STORE, VOLUME, Machine, are_alike, await_up, make, network, run,
+                      up)
 from results import Results
 from stored import FAULTS, Client, a_step_of
 
 WATCHERS = iter(range(11121, 11130))  # the ports of the watchers W1, W2 and W3, in this order
-OPTIONS = f"--ae UPSD --port {PORT} --bind 0.0.0.0 --keep {kills.KEEP} --store /var/lib/upsd/upsd.db " + " ".join(
+OPTIONS = f"--ae UPSD --port {PORT} --bind 0.0.0.0 --keep {kills.KEEP} --store {STORE} " + " ".join(
     f"W{it}={CLIENTS}:{11120 + it}{',lock' if it == 2 else ''}" for it in (1, 2, 3))
 ANSWER = 20.0  # seconds that a client waits for an answer
 PAUSED, FILLED, TAKEOVER = 90.0, 30.0, 120.0  # seconds of `pause`, of `full`, and for watchers behind a takeover
+GUESTS, STAYED = 16, 150.0  # of `house`: as many as workers, and seconds, in which the monitor of the server comes to its limit twice
 PARTS = {"the loss is noticed": "Members left", "the other machine is shut out": "peer is fenced", "the disk takes writes": "Secondary -> Primary",
          "the file system is mounted": "(drbd0): mounted", "the address is there": "Adding inet address", "the server listens": "listens on"}
 STILL_REACHED = ("cut", "pause")  # the trials in which a probe reaches the first server over the second network
@@ -313,6 +318,22 @@ def server(cluster: Cluster, results: Results) -> None:
     round_of(cluster, results, "server", lambda _: primary.says("pkill -9 -x upsd"))
 
 
+def house(cluster: Cluster, results: Results) -> None:
+    """The monitor waits behind the guests. It must not take the server for dead."""
+    primary = cluster.server().primary()
+    before = primary.says("systemctl show --property=MainPID --value upsd")
+    guests = House([(lambda: call(("127.0.0.1", PORT)), b"GUEST%d" % at, CALLED) for at in range(GUESTS)], 5.0)
+    is_full = holds(lambda: "16 of 16 workers" in primary.says("systemctl show --property=StatusText upsd"), PATIENCE)
+    results.tell("house: each worker is taken", None if is_full else f"{guests.count()} guests: {guests.faults[:2]}")
+    time.sleep(STAYED)
+    after = primary.says("systemctl show --property=MainPID --value upsd")
+    results.tell("house: the server is the same", None if after == before else primary.says("crm_mon -1rf"))
+    results.tell("house: at the same machine", None if cluster.primary() is primary else cluster.primary().name)
+    results.tell("house: none of it ended", "; ".join(guests.faults[:3]) or None)
+    guests.stop()
+    round_of(cluster, results, "house", lambda _: None)
+
+
 def switch(cluster: Cluster, results: Results) -> None:
     primary = cluster.primary()
     round_of(cluster, results, "switch", lambda _: primary.says(f"crm_resource --ban -r upsd -N {primary.name}"))
@@ -330,11 +351,11 @@ def full(cluster: Cluster, results: Results) -> None:
     primary = cluster.primary()
 
     def fault(_: Cluster) -> None:
-        primary.says("cd /var/lib/upsd && fallocate -l $(df --output=avail -B1 . | tail -1) ballast; sync")
+        primary.says(f"cd {VOLUME} && fallocate -l $(df --output=avail -B1 . | tail -1) ballast; sync")
         time.sleep(FILLED)
         log = "journalctl -u upsd -o cat --no-pager -p warning --since -1min | grep store | tail -2"
-        tell("full:", primary.says(f"df /var/lib/upsd | tail -1; {log}"))
-        primary.says("rm /var/lib/upsd/ballast; sync")
+        tell("full:", primary.says(f"df {VOLUME} | tail -1; {log}"))
+        primary.says(f"rm {VOLUME}/ballast; sync")
 
     round_of(cluster, results, "full", fault)
 
@@ -404,9 +425,9 @@ def hypervisor(solo: Machine, given: argparse.Namespace, results: Results) -> No
     if not solo.pid():
         solo.start()
     await_up([solo])
-    if "lost+found" not in solo.says("ls /var/lib/upsd"):
-        solo.says("mkfs.ext4 -q /dev/vdb; echo '/dev/vdb /var/lib/upsd ext4 noatime 0 2' >> /etc/fstab; mount /var/lib/upsd", check=True)
-        solo.fill_volume("/var/lib/upsd", OPTIONS)
+    if "lost+found" not in solo.says(f"ls {VOLUME}"):
+        solo.says(f"mkfs.ext4 -q /dev/vdb; echo '/dev/vdb {VOLUME} ext4 noatime 0 2' >> /etc/fstab; mount {VOLUME}", check=True)
+        solo.fill_volume(VOLUME, OPTIONS)
         solo.says("systemctl enable --now upsd", check=True)
     cluster: Cluster = Cluster({}, given)
     cluster.primary = lambda: solo
@@ -422,7 +443,7 @@ def hypervisor(solo: Machine, given: argparse.Namespace, results: Results) -> No
     solo.kill()
 
 
-TRIALS = {"power": power, "cut": cut, "server": server, "peer": peer, "full": full, "switch": switch, "pause": pause, "disk": disk,
+TRIALS = {"power": power, "cut": cut, "server": server, "house": house, "peer": peer, "full": full, "switch": switch, "pause": pause, "disk": disk,
           "old": old, "every": every}
 IN_ONE_GO = (("make",), ("up",), ("try",), ("down",), ("try", "hypervisor"), ("down",))
 

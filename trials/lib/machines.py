@@ -23,7 +23,8 @@ MODULES = "virtio_pci\nvirtio_blk\nvirtio_net\next4\n"
 PATIENCE = 900.0  # seconds for a machine or a cluster to come up: emulated processors are slow
 EMULATED = ["-accel", "tcg,thread=multi,tb-size=192", "-cpu", "max"]
 BY_KVM = ["-accel", "kvm", "-cpu", "host"]
-OPTIONS_FILE = "/var/lib/upsd/upsd.options"
+VOLUME = "/var/lib/upsd-volume"  # root's, with the options, and the folder of the store, which is the server's
+STORE = f"{VOLUME}/upsd/upsd.db"
 
 
 def run(*words: str, check: bool = True, given: Optional[str] = None) -> str:
@@ -71,6 +72,7 @@ def make(work: str, program: str, is_checked: bool) -> None:
     shutil.copy(package, os.path.join(root, "root/upsd.deb"))
     run("chroot", root, "dpkg", "--force-confold", "-i", "/root/upsd.deb")
     run("sh", "-c", f"rm -f {root}/var/lib/upsd/upsd.db*")  # the store is that of the volume
+    os.makedirs(root + VOLUME, exist_ok=True)
     put(os.path.join(root, "etc/fstab"), "/dev/vda / ext4 defaults 0 1\n")
     put(os.path.join(root, "etc/initramfs-tools/modules"), MODULES)
     run("sed", "-i", "s/^MODULES=.*/MODULES=list/", os.path.join(root, "etc/initramfs-tools/initramfs.conf"))
@@ -179,8 +181,8 @@ class Machine:
 
     def fill_volume(self, folder: str, options: str) -> None:
         """Makes a store and the options of `serve` on a volume that is mounted there."""
-        self.says(f"chown upsd: {folder} && chmod 700 {folder} && runuser -u upsd -- upsd init {folder}/upsd.db", check=True)
-        self.says(f"cat > {folder}/{os.path.basename(OPTIONS_FILE)} && sync", check=True, given=f'UPSD_OPTIONS="{options}"\n')
+        self.says(f"install -d -o upsd -g upsd -m 700 {folder}/upsd && runuser -u upsd -- upsd init {folder}/upsd/upsd.db", check=True)
+        self.says(f"cat > {folder}/upsd.options && sync", check=True, given=f'UPSD_OPTIONS="{options}"\n')
 
 
 def network() -> None:
