@@ -122,9 +122,7 @@ impl<K: Keeping> Commits<K> {
     }
 
     /// Returns the number of committed entries, or None if nothing is kept.
-    pub fn kept(&self) -> Option<u64>
-        ensures { IfSome result (λ count. IsBacked K.had count) }
-    {
+    pub fn kept(&self) -> Option<u64> {
         match self.count() {
             ALL => None,
             count => Some(count),

@@ -1,4 +1,3 @@
-pub mod Audited
 pub mod Crosses
 pub mod Ending
 pub mod Served

@@ -1,6 +1,4 @@
-pub mod Audited
 pub mod Delivering
-pub mod GivingUp
 pub mod Sending
 pub mod Serving
 pub mod Sharing

@@ -2,7 +2,6 @@ mod Behind
 mod Carried
 mod Digested
 mod First
-mod Granted
 mod Leaves
 mod Permitted
 mod Said

@@ -9,4 +9,3 @@ pub mod Alike
 pub mod Reopened
 pub mod Digested
 pub mod Carried
-pub mod Granted
