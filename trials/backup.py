@@ -356,9 +356,12 @@ def run_damages(place: Place, file: str, results: Results) -> None:
         results.tell(f"a backup {name} is refused", failed(ran, words))
         results.tell("and the store is as it was", None if bytes_in(file) == before else "it is not")
         shutil.rmtree(bad)
+    had_terms = os.path.exists(f"{file}-terms")
     ran = place.run("restore", good, "--store", file)
     aside = [it for it in os.listdir(os.path.dirname(file)) if ".before-" in it]
     results.tell("a good one is restored", None if ran.returncode == 0 and len(aside) == 2 else f"{ran.stdout}{ran.stderr}, {aside}")
+    left = os.path.exists(f"{file}-terms")
+    results.tell("and the terms of the store before it are gone", None if had_terms and not left else f"they were there: {had_terms}, and are: {left}")
     with Stored(place.program, file, *KEEP) as server:
         client = Client(server.port)
         there = [client.got(b"1.2.15.%d" % it) is not None for it in range(1, 7)]

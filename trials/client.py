@@ -406,7 +406,7 @@ def try_health(results: Results, program: list[str], folder: str) -> None:
     """Tries `health`: with servers that answer and others, and with wrong words."""
     with Server(program) as server:
         place = ["--port", str(server.port)]
-        for words, status in (([], 0), (["--warning", "30"], 0), (["--warning", "0.0001"], 1), (["--implicit"], 0)):
+        for words, status in (([], 0), (["--warning", "30"], 0), (["--warning", "0.001"], 1), (["--implicit"], 0)):
             ran = run("health", *words, *place)
             fault = wrong(ran, status) or (None if HEALTHY.fullmatch(ran.out) else f"this is no line of a plugin: {ran.out!r}")
             results.tell(" ".join(["health", *words]), fault)
@@ -805,13 +805,14 @@ def try_words(results: Results, folder: str) -> None:
         fault = None if ran.returncode in (0, 141) and not ran.stderr and ran.stdout.count("\n") == 1 else f"{ran}"
         results.tell(f"{words.split()[0]} | head -1", fault)
     asking = Listening("echo", "--port", str(silent_port()))
-    time.sleep(2)
-    ended = asking.end()
+    SILENT[-1].settimeout(LIMIT)
+    with SILENT[-1].accept()[0]:  # so it has begun, and waits for an answer
+        ended = asking.end()
     results.tell("an interrupt", None if ended == 130 and not asking.error else f"{ended} {asking.error}")
 
 
 def silent_port() -> int:
-    """Returns the port of a listener that takes no connection, and leaves it open."""
+    """Returns the port of a listener that answers nothing, and leaves it open."""
     SILENT.append(socket.create_server(("127.0.0.1", 0)))
     port: int = SILENT[-1].getsockname()[1]
     return port

@@ -7,15 +7,18 @@
     trials/package.py --root FOLDER    takes the bare Debian of a folder, and makes it there if there is none
 
 Two builds must be equal, `lintian` may find no error and no warning, `systemd-analyze security` may say at most 2.0, and the
-synopsis of upsd(8) must have the options of each --help. The package's file PROVED has to have the program's sum. Then `debootstrap` makes a Debian 12 with systemd (some 300 MB from
-deb.debian.org), and `systemd-nspawn` boots it, with a network of its own. There the package is installed with what it depends
-on; the unit, as it is but for the words in /etc/default/upsd, runs the tour of README.md through `ups`; a restart, a reload,
-an upgrade, a hangup, a wrong word, a removal and a purge must do what the package says. `systemd-analyze verify` may say
-nothing of the units. The unit of the backup makes one, which is restored, and leaves a server that goes on if it is killed. With
-the lines for a cluster the unit starts on a mounted volume alone, and the resource agent starts, asks and stops it (without a
-cluster): a full house runs, and one whose store takes nothing does not. A package with a stand-in for an earlier version, on the
-stored store of 0.2.0, is upgraded, which makes a backup before, and that one brings both back; where the new version refuses the
-options, the earlier server goes on. In the end nothing of the package may be left but the store and a locked account.
+synopsis of upsd(8) must have the options of each --help. The program has to say of what commit it was proved, or that it was
+not, as the package's file PROVED does. Then `debootstrap` makes a Debian 12 with systemd (some 300 MB from deb.debian.org), and
+`systemd-nspawn` boots it, with a network of its own. There the package is installed with what it depends on; the unit, as it is
+but for the words in /etc/default/upsd, runs the tour of README.md through `ups`; a restart, an upgrade, a hangup, a wrong word,
+a removal and a purge must do what the package says. A reload must leave the server alone if a start would refuse its options
+(other terms, a port that is taken, a wrong word), and else restart it: with a further watcher, another store, a right that is
+given, and a watcher that is retired. `systemd-analyze verify` may say nothing of the units. The unit of the backup makes one,
+which is restored, and leaves a server that goes on if it is killed. With the lines for a cluster the unit starts on a mounted
+volume alone, and the resource agent starts, asks and stops it (without a cluster): a full house runs, and one whose store takes
+nothing does not. A package with a stand-in for an earlier version, on the stored store of 0.2.0, is upgraded, which makes a
+backup before, and that one brings both back; the earlier server goes on until it is restarted, since it has told no terms. In
+the end nothing of the package may be left but the store and a locked account.
 
 It installs what is missing (lintian, debootstrap, systemd-container, man-db, python3-pydicom) and needs root. It prints a line
 for each trial, and then `N passed, M failed`. The exit status is 1 if any failed.
@@ -50,9 +53,11 @@ STORE = "/var/lib/upsd/upsd.db"
 VOLUME = "/var/lib/upsd-volume"  # of a cluster
 BACKUPS = "/var/backups/upsd"
 COLLECTED = "/var/lib/prometheus/node-exporter"
+KEPT = "--keep 86400"
 STORED = os.path.join(HERE, "rows/stores/0.2.0/store")
 STORED_WORDS = f"--ae UPSD --port {tour.SERVER_PORT} --bind 127.0.0.1 --keep 1 --offset 60 --store {STORE} WATCH1=127.0.0.1:35611,lock"
 LOADED = "/root/loaded"  # where a program of root's would write what it loads, if the unit's environment told it to
+TAKEN = tour.WATCHER_PORT + 1  # a port that something else has
 UNITS = ("upsd-backup.service", "upsd-backup.timer", "upsd.service")
 BESIDES = ("dbus", "iproute2")  # what a Debian has: `systemctl freeze` calls the one, and a cluster's unit has `ss` of the other
 AGENT = "/usr/lib/ocf/resource.d/upsd/upsd"
@@ -60,6 +65,9 @@ DROP_INS = "/etc/systemd/system/{}.d"
 RUNS, FAILS, RUNS_NOT = 0, 1, 7  # exit statuses of a resource agent
 PORTS = {port: port for port in (tour.SERVER_PORT, tour.WATCHER_PORT)}  # all are free: the booted Debian has its own network
 BOOT = 60  # seconds until it has booted
+LISTENS = 60.0  # seconds until a server answers: it may begin for the second time, five seconds after the first
+DOWN = 30.0  # seconds until the agent finds that a server has ended
+ROUND = 25.0  # seconds of a full house: an association makes way within 20 for one that waits
 QUIET = {**os.environ, "LC_ALL": "C.UTF-8", "DEBIAN_FRONTEND": "noninteractive", "PATH": "/usr/sbin:/usr/bin:/sbin:/bin"}
 NOT_COMPARED = ("var/log", "var/cache", "var/lib/dpkg", "var/lib/apt", "var/tmp", "var/lib/systemd", "tmp", "run", "proc", "sys",
                 "dev", "root", "etc/passwd-", "etc/group-", "etc/shadow-", "etc/gshadow-", "etc/.pwd.lock")
@@ -175,18 +183,21 @@ class Machine:
         return self.says("systemctl", "show", "--property", name, "--value", "upsd.service")
 
     @contextlib.contextmanager
-    def full_house(self, *more: str) -> Iterator[str]:
-        """Keeps a full house at the server, by a script of this machine in the other's network; yields its first line."""
+    def full_house(self, *more: str) -> Iterator[list[str]]:
+        """Keeps a full house at the server, by a script of this machine in the other's network; yields its first line, and behind it
+        in the end those about guests that ended."""
         words = ["nsenter", "-t", self.leader, "-n", PYTHON, os.path.join(HERE, "trials/lib/house.py"), str(tour.SERVER_PORT), *more]
         with subprocess.Popen(words, stdin=subprocess.PIPE, stdout=subprocess.PIPE, text=True, env=QUIET) as house:
             assert house.stdin and house.stdout
             try:
-                yield house.stdout.readline().strip()
+                said = [house.stdout.readline().strip()]
+                yield said
             finally:
                 house.stdin.close()
                 with contextlib.suppress(subprocess.TimeoutExpired):
                     house.wait(5)
                 house.kill()
+                said += house.stdout.read().splitlines()
 
     def has_booted(self, pid: int) -> bool:
         children = run("pgrep", "-P", str(pid)).stdout.split()
@@ -248,7 +259,10 @@ def try_installation(machine: Machine, results: Results) -> None:
     results.tell("the man pages", man_pages(machine.root))
     owner = owners(machine)
     results.tell("the first installation makes a store", unless(owner == "upsd 600\nupsd 700", owner))
-    told = machine.says("cat", "/usr/share/doc/upsd/PROVED")
+    said, told = machine.says("upsd", "--version"), machine.says("cat", "/usr/share/doc/upsd/PROVED")
+    commit = re.search(r"(?m)^commit: ([0-9a-f]{40})$", told)
+    wanted = f"commit {commit[1]}, all proved" if commit else f"commit {40 * '0'}, not proved"
+    results.tell("the program says of what it was proved", unless(wanted in said, f"{said!r} lacks {wanted!r}"))
     total = hashlib.sha256(content(machine.path("usr/bin/upsd"))).hexdigest()
     results.tell("PROVED has its sum", unless(f"sha256 of /usr/bin/upsd: {total}\n" in f"{told}\n", told))
     found = machine.of_unit("LogRateLimitIntervalUSec"), machine.of_unit("TimeoutStartUSec")
@@ -263,9 +277,9 @@ def owners(machine: Machine) -> str:
 # the trials in it
 
 def serve_words(commands: list[tour.Command]) -> str:
-    """Returns the words of the README's server, with a store."""
+    """Returns the words of the README's server, with a store, which keeps what is finished for longer than a trial takes."""
     command = next(it.text for it in commands if it.is_server)
-    return f"{re.search(r' serve (.*?)(?: 2>.*)? &$', command)[1]} --store {STORE}"
+    return f"{re.search(r' serve (.*?)(?: 2>.*)? &$', command)[1]} --store {STORE} {KEPT}"
 
 
 def has_words(machine: Machine, words: str) -> None:
@@ -289,7 +303,7 @@ def has_line(machine: Machine, name: str, line: str) -> None:
 
 def listens(machine: Machine, *options: str) -> Optional[str]:
     """Returns why the server does not answer within some seconds, or None."""
-    has_answered = holds(lambda: machine.run("ups", "echo", *options).returncode == 0, 20)
+    has_answered = holds(lambda: machine.run("ups", "echo", *options).returncode == 0, LISTENS)
     return None if has_answered else machine.says("journalctl", "--quiet", "--lines=3", "--unit=upsd")
 
 
@@ -314,12 +328,19 @@ def try_unit(machine: Machine, commands: list[tour.Command], results: Results) -
     found = machine.says("ups", "find")
     results.tell("a restart loses nothing", unless(found == held and "1 found" in held, f"{found!r} and not {held!r}"))
     try_reload(machine, commands, results)
+    try_terms(machine, commands, results)
     before = machine.of_unit("MainPID")
     results.tell("upgrade", fault_of(machine.run("dpkg", "--install", "--force-confold", "/root/upsd.deb")))
     is_new = holds(lambda: machine.of_unit("MainPID") not in (before, "0"), 20)
     results.tell("an upgrade restarts what runs", unless(is_new, f"it is still {before}") or listens(machine))
     made = machine.says("ls", BACKUPS).split()
     results.tell("and backs it up before", unless(len(made) == 1, " ".join(made)))
+    before = machine.of_unit("MainPID")
+    has_words(machine, serve_words(commands).replace(KEPT, "--keep 61"))
+    ran = installs(machine, "upsd")
+    is_told = machine.of_unit("MainPID") == before and "'systemctl reload upsd' says what this one refuses" in ran.stderr
+    results.tell("an upgrade whose options are refused leaves the server alone", fault_of(ran) or unless(is_told, ran.stderr))
+    has_words(machine, serve_words(commands))
     machine.run("rm", "-r", BACKUPS)
     errors = machine.says("journalctl", "--quiet", "--unit=upsd", "--priority=err", "_COMM=upsd")
     results.tell("the log has no error", unless(not errors, errors))
@@ -330,7 +351,7 @@ def try_unit(machine: Machine, commands: list[tour.Command], results: Results) -
 def try_reload(machine: Machine, commands: list[tour.Command], results: Results) -> None:
     """Reloads the unit with wrong options, which has to leave the server alone, and with right ones, which restarts it."""
     before = machine.of_unit("MainPID")
-    has_words(machine, f"{serve_words(commands)} --keep never")
+    has_words(machine, serve_words(commands).replace(KEPT, "--keep never"))
     ran = machine.run("systemctl", "reload", "upsd.service")
     results.tell("a reload with a wrong option fails", unless(ran.returncode != 0, "it succeeds"))
     results.tell("and the server goes on", unless(machine.of_unit("MainPID") == before, "it was restarted") or listens(machine))
@@ -348,12 +369,77 @@ def try_reload(machine: Machine, commands: list[tour.Command], results: Results)
     has_words(machine, serve_words(commands))
 
 
+def leaves_alone(machine: Machine, words: str, why: str) -> Optional[str]:
+    """Reloads the unit with options that a start would refuse. Returns why that does not leave the server alone, or does not tell
+    the reason; or None."""
+    before = machine.of_unit("MainPID")
+    has_words(machine, words)
+    ran = machine.run("systemctl", "reload", "upsd.service")
+    if ran.returncode == 0 or machine.of_unit("MainPID") != before:
+        return f"status {ran.returncode}, {machine.of_unit('MainPID')}, and {before} before"
+    said = machine.says("journalctl", "--quiet", "--unit=upsd", "--output=cat", "--lines=9")
+    return unless(why in said, f"{why!r} is not told: {said}") or listens(machine)
+
+
+def restarts(machine: Machine, words: str) -> Optional[str]:
+    """Reloads the unit with options that a start takes. Returns why that does not restart the server, or None."""
+    before = machine.of_unit("MainPID")
+    has_words(machine, words)
+    ran = machine.run("systemctl", "reload", "upsd.service")
+    is_new = holds(lambda: machine.of_unit("MainPID") not in (before, "0"), 20)
+    return fault_of(ran) or unless(is_new, f"it is still {before}") or listens(machine)
+
+
+def try_terms(machine: Machine, commands: list[tour.Command], results: Results) -> None:
+    """Reloads a server on a store of its own with options of each kind, gives its watcher a right, and retires it."""
+    store, watcher = f"{os.path.dirname(STORE)}/terms.db", f"WATCH1=127.0.0.1:{tour.WATCHER_PORT}"
+    words = serve_words(commands).replace(STORE, store).replace(KEPT, "--keep 1")
+    machine.run("runuser", "-u", "upsd", "--", "upsd", "init", store)
+    results.tell("a reload with another store", restarts(machine, words))
+    machine.run("systemd-run", "--unit=taken", PYTHON, "-m", "http.server", "--bind", "127.0.0.1", f"{TAKEN}")
+    calls = f"import socket; socket.create_connection(('127.0.0.1', {TAKEN}), 1)"
+    holds(lambda: machine.run(PYTHON, "-c", calls).returncode == 0, 10)
+    for name, others, why in (("another time to keep", words.replace("--keep 1", "--keep 2"), "kept for 1 seconds"),
+                              ("another offset", f"{words} --offset 60", "0 minutes"),
+                              ("a watcher less", words.replace(watcher, ""), "WATCH1 was a peer"),
+                              ("a port that is taken", words.replace(f"{tour.SERVER_PORT}", f"{TAKEN}"), f"port {TAKEN}"),
+                              ("numbers in its store", f"{words} --metrics {store}", "--metrics takes a file apart from the store")):
+        results.tell(f"a reload with {name} leaves the server alone", leaves_alone(machine, others, why))
+    machine.run("systemctl", "stop", "taken.service")
+    for name, others in (("the same options", words), ("a further watcher", f"{words} WATCH2=127.0.0.1:1"),
+                         ("another address of it", f"{words} WATCH2=127.0.0.1:2")):
+        results.tell(f"a reload with {name}", restarts(machine, others))
+    words = f"{words} WATCH2=127.0.0.1:2"
+    try_right(machine, words, watcher, results)
+    results.tell("a reload that retires a watcher", restarts(machine, words.replace(watcher, "WATCH1=-,lock")))
+    told = holds(lambda: "reports for WATCH1 were given up" in machine.says("journalctl", "--quiet", "--unit=upsd", "--output=cat"), 90)
+    results.tell("what waited for it is given up, and told", unless(told, machine.says("journalctl", "--quiet", "--lines=3", "--unit=upsd")))
+    results.tell("and it is a watcher again", restarts(machine, words.replace(watcher, f"{watcher},lock")))
+    results.tell("a reload with the store of before", restarts(machine, serve_words(commands)))
+    machine.run("sh", "-c", f"rm {store}*")
+
+
+def try_right(machine: Machine, words: str, watcher: str, results: Results) -> None:
+    """Gives a watcher the right to lock steps, once a step is removed for which it had asked for a lock in vain; takes it away."""
+    asked = machine.says("ups", "subscribe", "--receiver", "WATCH1", "--lock")
+    results.tell("a lock without the right", unless("B301" in asked, asked))
+    machine.run("ups", "create", "1.2.9.1")
+    machine.run("ups", "cancel", "1.2.9.1")
+    gone = holds(lambda: "0 found" in machine.says("ups", "find"), 20)
+    results.tell("a step is removed in spite of it", unless(gone, machine.says("ups", "find")))
+    results.tell("a reload with a right more", restarts(machine, words.replace(watcher, f"{watcher},lock")))
+    found = machine.says("ups", "find")
+    results.tell("brings no step back", unless("0 found" in found, found))
+    results.tell("a reload with a right less leaves the server alone", leaves_alone(machine, words, "WATCH1 had the right"))
+    results.tell("another start takes the right", restarts(machine, words.replace(watcher, f"{watcher},lock")))
+
+
 def try_ends(machine: Machine, commands: list[tour.Command], results: Results) -> None:
     """Tries how the unit ends, by the exit statuses of docs/use/command-line.md."""
-    killed = machine.run("systemctl", "kill", "--signal=KILL", "upsd.service")
+    killed = machine.run("systemctl", "kill", "--kill-whom=main", "--signal=KILL", "upsd.service")
     begins = holds(lambda: machine.of_unit("NRestarts") == "1", 20)
     results.tell("a crash is mended", fault_of(killed) or unless(begins, "no restart") or listens(machine))
-    killed = machine.run("systemctl", "kill", "--signal=HUP", "upsd.service")
+    killed = machine.run("systemctl", "kill", "--kill-whom=main", "--signal=HUP", "upsd.service")
     begins = holds(lambda: machine.of_unit("NRestarts") == "2", 20)
     results.tell("and so is a hangup", fault_of(killed) or unless(begins, "no restart") or listens(machine))
     limit = re.search(r"Max core file size +(\d+|unlimited)", machine.says("cat", f"/proc/{machine.of_unit('MainPID')}/limits"))
@@ -475,8 +561,8 @@ def try_cluster(machine: Machine, commands: list[tour.Command], results: Results
     results.tell("a server that stands still fails its monitor", unless(found == FAILS, f"status {found}"))
     results.tell("one that goes on does not", unless(agent(machine, "monitor") == RUNS, "it does"))
     try_full_house(machine, results)
-    machine.run("systemctl", "kill", "--signal=KILL", "upsd.service")
-    is_down = holds(lambda: agent(machine, "monitor") == RUNS_NOT, 10)
+    machine.run("systemctl", "kill", "--kill-whom=main", "--signal=KILL", "upsd.service")
+    is_down = holds(lambda: agent(machine, "monitor") == RUNS_NOT, DOWN)
     results.tell("systemd does not restart it", unless(is_down, machine.of_unit("ActiveState")))
     statuses = agent(machine, "start"), agent(machine, "stop"), agent(machine, "monitor")
     results.tell("the agent does, and stops it", unless(statuses == (RUNS, RUNS, RUNS_NOT), str(statuses)))
@@ -490,8 +576,12 @@ def try_full_house(machine: Machine, results: Results) -> None:
     with machine.full_house("--every", "4") as said:
         is_full = holds(lambda: "16 of 16 workers" in machine.of_unit("StatusText"), 10)
         results.tell("a full house", unless(is_full, f"{said}: {machine.of_unit('StatusText')}"))
-        found = agent(machine, "monitor", 5), agent(machine, "start", 5)
+        found = agent(machine, "monitor", 40), agent(machine, "start", 5)
         results.tell("it is running, for the agent", unless(found == (RUNS, RUNS), f"{found}: {machine.of_unit('StatusText')}"))
+        time.sleep(ROUND)
+        found = agent(machine, "monitor", 40), agent(machine, "monitor", 40)
+        results.tell("and goes on to run", unless(found == (RUNS, RUNS), f"{found}: {machine.of_unit('StatusText')}"))
+    results.tell("no guest makes way for the agent", unless(not said[1:], "; ".join(said[1:3])))
     results.tell("it was not restarted", unless(machine.of_unit("MainPID") == before, "it was"))
     holds(lambda: "; 0 of 16 workers" in machine.of_unit("StatusText"), 70)
     machine.run("sh", "-c", f"head -c 60m /dev/zero > {VOLUME}/ballast")
@@ -546,8 +636,11 @@ def try_upgrade(machine: Machine, results: Results) -> None:
     has_words(machine, STORED_WORDS)
     installs(machine, "earlier")
     machine.run("sh", "-c", f"systemctl restart upsd.service; rm -r {BACKUPS}")
+    before = machine.of_unit("MainPID")
     ran = installs(machine, "upsd")
-    results.tell("an upgrade of 0.2.0", fault_of(ran) or unless("goes on" not in ran.stderr, ran.stderr) or listens(machine))
+    is_told = machine.of_unit("MainPID") == before and "run 'systemctl restart upsd'" in ran.stderr
+    results.tell("an upgrade of 0.2.0, which tells no terms, says what to do", fault_of(ran) or unless(is_told, ran.stderr))
+    results.tell("its restart", fault_of(machine.run("systemctl", "restart", "upsd.service")) or listens(machine))
     found = machine.says("ups", "find")
     results.tell("has the steps of its store", unless("1.2.3.4.4" in found, found))
     backup = f"{BACKUPS}/{machine.says('ls', BACKUPS)}"
@@ -598,7 +691,8 @@ def try_removal(machine: Machine, before: set[str], results: Results) -> None:
     """Removes the package, and purges it."""
     results.tell("remove", fault_of(machine.run("dpkg", "--remove", "upsd")))
     left = machine.paths() - before
-    kept = {"etc/default/upsd", "var/lib/upsd", "var/lib/upsd/upsd.db", "var/lib/upsd/upsd.db-wal",
+    stored = {"var/lib/upsd", *(f"var/lib/upsd/upsd.db{it}" for it in ("", "-wal", "-terms"))}
+    kept = {"etc/default/upsd", *stored,
             "etc/systemd/system/timers.target.wants/upsd-backup.timer"}
     results.tell("a removal keeps words, store and what was enabled alone", unless(left == kept, f"{sorted(left ^ kept)}"))
     runs = "upsd" in machine.says("sh", "-c", "cat /proc/[0-9]*/comm").split()
@@ -606,7 +700,7 @@ def try_removal(machine: Machine, before: set[str], results: Results) -> None:
     ran = machine.run("dpkg", "--purge", "upsd")
     results.tell("purge", fault_of(ran) or unless("/var/lib/upsd stays" in ran.stderr, ran.stderr))
     left = machine.paths() ^ before
-    results.tell("a purge leaves the store", unless(left == {"var/lib/upsd", "var/lib/upsd/upsd.db", "var/lib/upsd/upsd.db-wal"}, f"{sorted(left)}"))
+    results.tell("a purge leaves the store", unless(left == stored, f"{sorted(left)}"))
     expires = machine.says("getent", "shadow", "upsd").split(":")
     results.tell("and the account, which is locked", unless(expires[7:8] == ["1"], ":".join(expires)))
 

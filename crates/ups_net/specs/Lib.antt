@@ -1,4 +1,7 @@
+pub mod Audited
 pub mod Delivering
+pub mod GivingUp
+pub mod Published
 pub mod Sending
 pub mod Serving
 pub mod Sharing

@@ -1,28 +1,32 @@
 //! The numbers of a server in a file, for a monitor.
 
+ghost use Rattle.std.specs.Prelude.{◌≡◌};
+ghost use Rattle.ups_net.specs.Published.{flag, store_numbers};
+
 use crate::committer::Committer;
 use crate::monitor::{MINUTE, Reminder};
 use crate::numbers::Numbers;
 use crate::options::ServerOptions;
 use crate::server_state::ServerState;
+use crate::tender::Compactions;
 use log::Log;
 use std::alloc::Global;
 use std::io::{self, Write};
 use std::time::{Clock, Duration};
 use ups_ledger::Keeping;
 use ups_log::{
-    KINDS, KindCount, KindCounts, Label, Labels, Metric, RequestKind, StatusCount, moment_of,
-    put_heading, put_metric, put_sample, tell_unwritten, title_of,
+    KINDS, KindCount, KindCounts, Label, Labels, Metric, MetricKind, RequestKind, StatusCount,
+    moment_of, put_heading, put_metric, put_sample, tell_unwritten, title_of,
 };
 use ups_peers::Watcher;
-use ups_transport::Network;
+use ups_transport::{Network, ProcessMemory};
 
 /// The number of seconds between two pages.
 const PAUSE: u64 = 15;
 
 /// What a page tells of a server.
 #[derive(Clone, Copy)]
-struct Page<'a> {
+pub(crate) struct Page<'a> {
     numbers: Numbers<'a>,
     version: &'a str,
     /// When the server began, in seconds since 1970-01-01 UTC.
@@ -34,6 +38,11 @@ struct Page<'a> {
     /// Whether the last try to commit failed, and whether only a restart helps.
     is_failing: bool,
     is_lost: bool,
+    /// The compactions of the store.
+    compactions: Compactions,
+    /// The memory of the process, and the limit of its addresses, if the system tells.
+    memory: Option<ProcessMemory>,
+    memory_limit: Option<u64>,
 }
 
 /// Writes the version of the program, and when the server began.
@@ -52,34 +61,130 @@ fn put_start<W: Write>(writer: &mut W, page: &Page<'_>) -> io::Result<()> {
     put_metric(writer, &start, page.begun)
 }
 
-/// Writes how long the history is.
+/// Writes how long the history is, and how many steps are held, if that is known.
 fn put_history<W: Write>(writer: &mut W, page: &Page<'_>) -> io::Result<()> {
-    let entries = Metric::gauge("upsd_history_entries", "Accepted requests in the history.");
-    put_metric(writer, &entries, page.numbers.entries)
+    let entries = Metric::gauge(
+        "upsd_history_entries",
+        "Accepted requests: those of the store at the start, and all since.",
+    );
+    put_metric(writer, &entries, page.numbers.entries)?;
+    let Some(steps) = page.numbers.tally.steps() else {
+        return Ok(());
+    };
+    let held = Metric::gauge("upsd_steps_held", "Steps that are held, in any state.");
+    put_metric(writer, &held, steps)
 }
 
-/// Writes what is committed of the history, and whether the store fails, if there is a store.
+/// What a page tells of a store: a metric for each of its numbers, in their order.
+const STORE_METRICS: [Metric; 8] = [
+    Metric {
+        name: "upsd_store_run",
+        kind: MetricKind::Gauge,
+        help: "Number of this run in the store.",
+    },
+    Metric {
+        name: "upsd_store_committed_entries",
+        kind: MetricKind::Gauge,
+        help: "Accepted requests that are committed: those of the store at the start, and all since.",
+    },
+    Metric {
+        name: "upsd_store_rows",
+        kind: MetricKind::Gauge,
+        help: "Requests in the file of the store.",
+    },
+    Metric {
+        name: "upsd_store_compactions_total",
+        kind: MetricKind::Counter,
+        help: "Compactions of the store since the start.",
+    },
+    Metric {
+        name: "upsd_store_last_compaction_timestamp_seconds",
+        kind: MetricKind::Gauge,
+        help: "When the last of them ended, in seconds since 1970-01-01 UTC, or 0.",
+    },
+    Metric {
+        name: "upsd_store_compaction_failing",
+        kind: MetricKind::Gauge,
+        help: "1 if the last compaction of the store failed, else 0.",
+    },
+    Metric {
+        name: "upsd_store_failing",
+        kind: MetricKind::Gauge,
+        help: "1 if the store took no requests at the last try, else 0.",
+    },
+    Metric {
+        name: "upsd_store_lost",
+        kind: MetricKind::Gauge,
+        help: "1 if the store is lost, so that only a restart helps, else 0.",
+    },
+];
+
+/// Returns the number of a metric that is 1 if something is so, and else 0.
+fn flag(is_so: bool) -> u64
+    ensures { result ≡ flag is_so }
+{
+    if is_so { 1 } else { 0 }
+}
+
+/// Returns the numbers of a store, in the order of its metrics: the run, the committed requests, the rows, the compactions,
+/// when the last one ended and whether it failed, and whether the store fails, or is lost.
+fn store_numbers(run: u64, committed: u64, page: &Page<'_>) -> [u64; 8]
+    ensures { result ≡ store_numbers run committed page.now }
+{
+    let Compactions {
+        done,
+        last,
+        is_failing,
+        ..
+    } = page.compactions;
+    let rows = page.compactions.rows_of(committed);
+    [
+        run,
+        committed,
+        rows,
+        done,
+        last,
+        flag(is_failing),
+        flag(page.is_failing),
+        flag(page.is_lost),
+    ]
+}
+
+/// Writes what is committed of the history, how the store is compacted, and whether it fails, if there is a store.
 fn put_store<W: Write>(writer: &mut W, page: &Page<'_>) -> io::Result<()> {
     let (Some(run), Some(committed)) = (page.numbers.run, page.numbers.committed) else {
         return Ok(());
     };
-    let runs = Metric::gauge("upsd_store_run", "Number of this run in the store.");
-    put_metric(writer, &runs, run)?;
-    let entries = Metric::gauge(
-        "upsd_store_committed_entries",
-        "Accepted requests that are on the disk.",
+    let numbers = store_numbers(run, committed, page);
+    for (metric, number) in STORE_METRICS.iter().zip(numbers.iter()) {
+        put_metric(writer, metric, *number)?;
+    }
+    Ok(())
+}
+
+/// Writes how much memory the process has, and how much it may have, if the system tells.
+fn put_memory<W: Write>(writer: &mut W, page: &Page<'_>) -> io::Result<()> {
+    let Some(memory) = page.memory else {
+        return Ok(());
+    };
+    let resident = Metric::gauge(
+        "upsd_resident_memory_bytes",
+        "Memory that the process has in use.",
     );
-    put_metric(writer, &entries, committed)?;
-    let failing = Metric::gauge(
-        "upsd_store_failing",
-        "1 if the store took no requests at the last try, else 0.",
+    put_metric(writer, &resident, memory.resident)?;
+    let addresses = Metric::gauge(
+        "upsd_virtual_memory_bytes",
+        "Addresses that the process has in use, which LimitAS limits.",
     );
-    put_metric(writer, &failing, u64::from(page.is_failing))?;
-    let lost = Metric::gauge(
-        "upsd_store_lost",
-        "1 if the store is lost, so that only a restart helps, else 0.",
+    put_metric(writer, &addresses, memory.addresses)?;
+    let Some(most) = page.memory_limit else {
+        return Ok(());
+    };
+    let limit = Metric::gauge(
+        "upsd_virtual_memory_max_bytes",
+        "Addresses that the process may have, by LimitAS.",
     );
-    put_metric(writer, &lost, u64::from(page.is_lost))
+    put_metric(writer, &limit, most)
 }
 
 /// Writes how many workers there are, and how many are taken.
@@ -224,12 +329,26 @@ fn watcher_label(watcher: &Watcher) -> Labels<'_> {
 fn put_reports<W: Write>(writer: &mut W, numbers: &Numbers<'_>) -> io::Result<()> {
     let reports = Metric::gauge(
         "upsd_reports_pending",
-        "Reports that wait for a watcher, when last counted, 10001 at most.",
+        "Reports that wait for a watcher, when last counted.",
     );
     put_heading(writer, &reports)?;
     for (place, watcher) in numbers.watchers.iter().enumerate() {
         let waiting = numbers.roster.presence(place).waiting();
         put_sample(writer, &reports, &watcher_label(watcher), waiting)?;
+    }
+    Ok(())
+}
+
+/// Writes how many reports each watcher acknowledged.
+fn put_delivered<W: Write>(writer: &mut W, numbers: &Numbers<'_>) -> io::Result<()> {
+    let delivered = Metric::counter(
+        "upsd_reports_delivered_total",
+        "Reports that a watcher acknowledged since the start.",
+    );
+    put_heading(writer, &delivered)?;
+    for (place, watcher) in numbers.watchers.iter().enumerate() {
+        let reports = numbers.roster.presence(place).delivered();
+        put_sample(writer, &delivered, &watcher_label(watcher), reports)?;
     }
     Ok(())
 }
@@ -253,12 +372,14 @@ fn put_page<W: Write>(writer: &mut W, alloc: Global, page: &Page<'_>) -> io::Res
     put_start(writer, page)?;
     put_history(writer, page)?;
     put_store(writer, page)?;
+    put_memory(writer, page)?;
     put_workers(writer, page)?;
     put_associations(writer, page)?;
     put_longest(writer, page)?;
     put_requests(writer, page.numbers.tally.kinds())?;
     put_refusals(writer, alloc, page.numbers.tally.kinds())?;
     put_reports(writer, &page.numbers)?;
+    put_delivered(writer, &page.numbers)?;
     put_away(writer, &page.numbers)
 }
 
@@ -317,6 +438,9 @@ impl Publisher {
             longest: state.tally.take_longest(),
             is_failing: committer.is_failing(),
             is_lost: committer.is_lost(),
+            compactions: committer.compactions(),
+            memory: rt.memory(),
+            memory_limit: rt.memory_limit(),
         };
         if let Err(fault) = publish(rt, options.alloc, file.path.as_str(), &page)
             && self.failure.is_due(now)

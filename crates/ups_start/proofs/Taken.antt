@@ -1,8 +1,12 @@
 -- Records that were entered or left out one behind the other.
-use Rattle.std.proofs.Common.{◌≡◌, inl, inr, rules, ℕ, Bool, false, List, [], ◌∷◌, ◌++◌, map, refl, sym, subst, ap, ◌∙◌, arith, append_assoc}
+use Rattle.std.proofs.Common.{◌≡◌, inl, inr, rules, ℕ, Bool, false, List, [], ◌∷◌, ◌++◌, map, Result, Ok, Err, OnOk, IfOk, refl, sym, subst, ap, ◌∙◌, arith, append_assoc}
+use Rattle.std.specs.Prelude.{IsTrue}
 use Rattle.std.proofs.lemmas.List.{append-nil, map-append}
 use Rattle.ups_life.specs.declared.entry.Entry.{Entry}
 use Rattle.ups_life.specs.Settings.{Settings}
+use Rattle.ups_life.specs.Steps.{past}
+use Rattle.ups_compact.specs.Compacting.{compacted_for, steps_needed}
+use Rattle.ups_restore.specs.declared.acknowledging.TheConstants.{COMPACTOR}
 use Rattle.ups_journal.specs.declared.record.Record.{Record}
 use Rattle.ups_journal.specs.Columns.{recorded}
 use Rattle.ups_restore.specs.declared.leaving.Restored.{Restored}
@@ -12,7 +16,7 @@ use Rattle.ups_restore.specs.Leaving.{Becomes, counted_with, all_counted, Become
 use Rattle.ups_restore.specs.Replaying.{GoesOnBy}
 use Rattle.std.specs.declared.alloc.Global.{Global}
 use Rattle.ups_terms.specs.declared.choices.StartChoices.{StartChoices}
-use Rattle.sqlite_trees.specs.View.{View}
+use Rattle.sqlite_trees.specs.View.{View, IsClean}
 use Rattle.ups_start.specs.Noted.{PermitsNoted}
 use Rattle.ups_start.specs.Opened.{records_shown, terms_shown, BeginsFrom}
 use Rattle.ups_start.specs.Started.{without_compaction, Begins}
@@ -96,3 +100,26 @@ begins_from_without s t shown choices fewer moment after same is from = record {
   begins = begins_without s t (records_shown shown) choices fewer moment after same is from.begins;
   permits = λ keeps. subst (λ (u : Settings). PermitsNoted u (terms_shown shown)) same (from.permits (ap (λ (x : StartChoices). x.may_change_terms) is ∙ keeps));
 }
+
+-- a start that has entered all records and then compacted them begins with the compacted history
+pub begins_compacted : (s t : Settings) (shown : View) (rs : List (Record Global)) (choices : StartChoices) (moment : ℕ) (before entered fresh : List (Entry Global)) (counts : Restoration)
+    → IsClean shown → before ≡ [] → rs ≡ records_shown shown → AreTaken s before rs choices.may_leave_out counts entered → t ≡ s → IsTrue choices.may_compact
+    → past fresh ≡ compacted_for COMPACTOR moment t (steps_needed t (past entered)) (past entered)
+    → (choices.may_change_terms ≡ false → PermitsNoted s (terms_shown shown))
+    → BeginsFrom shown s choices moment fresh
+begins_compacted s t shown rs choices moment before entered fresh counts clean none are taken same may is permits = record {
+  clean = clean;
+  begins = record {
+    entered = entered;
+    counts = counts;
+    taken = subst (λ (h : List (Entry Global)). AreTaken s h (records_shown shown) choices.may_leave_out counts entered) none (subst (λ (xs : List (Record Global)). AreTaken s before xs choices.may_leave_out counts entered) are taken);
+    becomes = inr (may, subst (λ (u : Settings). past fresh ≡ compacted_for COMPACTOR moment u (steps_needed u (past entered)) (past entered)) same is);
+  };
+  permits = permits;
+}
+
+-- what replaces a history begins as that which it takes the place of it with
+pub begins_replaced : {T E : Type 0} (Q : T → Type 0) (C : Type 0) (s : Settings) (shown : View) (choices : StartChoices) (moment : ℕ) (fresh after : List (Entry Global)) (r : Result T E)
+    → OnOk r (after ≡ fresh) → IfOk r (λ b. Q b → C) → (C → BeginsFrom shown s choices moment fresh) → IfOk r (λ b. Q b → BeginsFrom shown s choices moment after)
+begins_replaced Q C s shown choices moment fresh after (Ok b) same clean begins = λ q. subst (λ (h : List (Entry Global)). BeginsFrom shown s choices moment h) (sym same) (begins (clean q))
+begins_replaced Q C s shown choices moment fresh after (Err f) same clean begins = tt

@@ -17,13 +17,14 @@ ghost use Rattle.ups_start.specs.Started.{said, moment_in, without_compaction};
 use crate::carrying::compacted_anew;
 use crate::compacting::{compacted, emptied, tell_compacted};
 use crate::fault::StartFault;
+use crate::granting::settle_locks;
 use crate::ledger::StoreLedger;
 use crate::naming::LedgerNaming;
 use crate::place::StorePlace;
 use crate::reading::Reading;
 use crate::rewriting::rewritten;
 use crate::taking::{Remembered, take_all};
-use crate::terms::check_terms;
+use crate::terms::{check_terms, counted_in};
 use log::{Log, info, warn};
 use sqlite_trees::store::{Alter, Store};
 use std::alloc::Global;
@@ -47,11 +48,14 @@ pub(crate) struct StartedRun<S: Store> {
     ghost digested: { IsClean (requests_shown store) → digest ≡ digest_of (said (requests store)) },
 }
 
-/// Begins a run in a store, all of whose requests were read, and gives it the present format.
+/// Begins a run in a store, all of whose requests were read, and gives it the present format first, which earlier versions
+/// refuse: by then nothing but the disk may refuse the start any more. The row of the last run counts `counted` requests.
 ///
-/// Errors: Write, with Short if requests that an earlier run had committed are lost; Read if not all were read.
+/// Errors: Write, with Short if there are fewer, since an earlier run had committed them: the store is as it was then;
+/// Read if not all were read.
 pub(crate) fn begin_run<S: Alter + Drop>(
     reading: Reading<S>,
+    counted: u64,
     about: &Run<'_>,
 ) -> Result<StartedRun<S>, StartFault>
     requires digested { AreDigested reading }
@@ -63,6 +67,9 @@ pub(crate) fn begin_run<S: Alter + Drop>(
     let Some(mut store) = replay.finish() else {
         return Err(StartFault::Read(StoreFault::Shut));
     };
+    if store.len() < counted {
+        return Err(StartFault::Write(StoreFault::Short));
+    }
     if let Err(fault) = store.upgrade() {
         return Err(StartFault::Write(fault));
     }
@@ -239,6 +246,10 @@ fn begin_over<S: Alter + Drop, R: Clock + Log>(
         Ok(()) => {}
         Err(fault) => return Err(Unsettled::Failed(fault)),
     }
+    let counted = match counted_in(&mut replay) {
+        Ok(counted) => counted,
+        Err(fault) => return Err(Unsettled::Failed(fault)),
+    };
     let mut reading = Reading::over(replay);
     let counts = match take_all(
         telling,
@@ -255,7 +266,7 @@ fn begin_over<S: Alter + Drop, R: Clock + Log>(
         Ok(fresh) => fresh,
         Err(fault) => return Err(Unsettled::Uncompacted(fault)),
     };
-    let begun = match begin_run(reading, about) {
+    let begun = match begin_run(reading, counted, about) {
         Ok(begun) => begun,
         Err(fault) => return Err(Unsettled::Failed(fault)),
     };
@@ -378,8 +389,9 @@ fn begin_in<P: StorePlace, R: Clock + Log>(
 /// of all requests from now on, over one that has the name which `naming` gives it.
 ///
 /// The settings of the manager have to permit as much as the terms that the last run noted, unless the choices allow
-/// other terms. The terms that this run notes, in `about`, should be those of these settings
-/// ([`terms_text`](ups_terms::terms_text)).
+/// other terms. A right to lock steps that they give holds from now on: the subscriptions whose lock was not granted before
+/// stay without one, and are recorded so first, in a run under the terms of the last one. The terms that this run notes,
+/// in `about`, should be those of these settings ([`terms_text`](ups_terms::terms_text)).
 ///
 /// # Errors
 ///
@@ -410,6 +422,7 @@ pub fn begin<
     ensures all { IfOk result (λ k. k.committed ≡ length manager.new.history) }
     ensures compacts { IfOk result (λ k. k.ledger.compaction.empty.settings ≡ manager.new.settings) }
 {
+    settle_locks(alloc, telling, &place, choices, &about, manager)?;
     let begun = begin_in(alloc, telling, &place, choices, &about, manager)?;
     let empty = emptied(alloc, manager)?;
     let committed = manager.entries();

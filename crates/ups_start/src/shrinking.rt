@@ -18,11 +18,12 @@ use crate::beginning::{begin_run, opened};
 use crate::carrying::{carry_all, steps_to_keep};
 use crate::compacting::{compacted_to, moment_of};
 use crate::fault::StartFault;
+use crate::granting::settle_locks;
 use crate::place::StorePlace;
 use crate::reading::Reading;
 use crate::rewriting::rewritten;
 use crate::taking::{Remembered, take_all};
-use crate::terms::check_terms;
+use crate::terms::{check_terms, counted_in};
 use log::Log;
 use sqlite_trees::store::{Alter, Store};
 use std::alloc::Global;
@@ -90,12 +91,14 @@ fn compact_again<S: Store>(
 }
 
 /// Begins a run in a store, and replaces its requests by those of the compacted history of a manager, which the manager
-/// `fresh` gets. They are read once more if the manager has entered all of them and no others.
+/// `fresh` gets. They are read once more if the manager has entered all of them and no others. The row of the last run
+/// counts `counted` requests.
 ///
 /// Errors: Read, Write, Memory, Compact. The store keeps its requests, or may have the new ones if the commit failed.
 fn shrunk_over<S: Alter + Drop>(
     alloc: Global,
     mut reading: Reading<S>,
+    counted: u64,
     about: &Run<'_>,
     manager: &Manager<Global>,
     fresh: &mut Manager<Global>,
@@ -114,7 +117,7 @@ fn shrunk_over<S: Alter + Drop>(
     if reads_again {
         compact_again(alloc, &mut reading, about, manager, fresh)?;
     }
-    let begun = begin_run(reading, about)?;
+    let begun = begin_run(reading, counted, about)?;
     let before = begun.store.len();
     let begun = if reads_again {
         rewritten(alloc, begun, about, fresh)?
@@ -163,6 +166,7 @@ fn compact_over<S: Alter + Drop, R: Clock + Log>(
         manager,
         choices.may_change_terms,
     )?;
+    let counted = counted_in(&mut replay)?;
     let reads_again = reads_again(manager, choices);
     let mut reading = Reading::over(replay);
     take_all(
@@ -173,7 +177,7 @@ fn compact_over<S: Alter + Drop, R: Clock + Log>(
         choices.may_leave_out,
         Remembered::of(!reads_again),
     )?;
-    shrunk_over(alloc, reading, about, manager, fresh, reads_again)
+    shrunk_over(alloc, reading, counted, about, manager, fresh, reads_again)
 }
 
 /// Copies what is stored next to a store into it, and drops it.
@@ -212,6 +216,7 @@ pub fn compact<P: StorePlace, R: Clock + Log>(
     ensures permits { OnOk result ((found : View) × P.finds place.now found × (shrunk : RequestStore P.Store P.Store.Store) × (choices.may_change_terms ≡ false → IsClean (requests_shown shrunk) → PermitsNoted manager.old.settings (terms_shown found))) }
     ensures settings { manager.new.settings ≡ manager.old.settings }
 {
+    settle_locks(alloc, telling, place, choices, about, manager)?;
     let replay = opened(place)?;
     let shrunk = compact_over(alloc, telling, replay, choices, about, manager, fresh)?;
     let compacted = closed::<P>(shrunk)?;
