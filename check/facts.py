@@ -9,7 +9,7 @@ A number in README.md, in a page of docs or in a man page is compared if a mark 
 milliseconds. The mark `status` precedes the code of a status: a page that marks any has to mark all that `ups_cycle` has, and
 no other. A `[default: N]` in a help text of the program is compared by its option, as is the default in the docstring that names
 the option, and the man page of the program has to have each option with the same word and the same default, and no other. The
-client in examples has to have a text for each status except the one that more answers follow, and its options the defaults that
+client has to have a text for each status except the one that more answers follow, and its options the defaults that
 their help states, and those of the sources. Each `ups COMMAND --option` in the code of a page has to have a command of the client
 and options of this command; an option without a command, in a page for users, is one of the client or of the program. The
 implementation version name is the same in sources, specs and statement.
@@ -31,11 +31,12 @@ import argparse
 import ast
 import functools
 import glob
+import importlib
 import os
 import re
 import shlex
 import sys
-import types
+import tempfile
 from collections.abc import Iterator
 from typing import Optional, Union
 from unittest import mock
@@ -72,7 +73,7 @@ OPTIONS = {"keep": "keep", "offset": "offset", "associations": "workers", "idle"
            "delivery-timeout": "delivery_timeout", "waiting": "waiting", "compact-at": "compact_at", "bind": "address"}  # the fact that is the default of each option
 STATUS_FILE = "crates/ups_cycle/src/status.rt"
 MAN_PAGE = "packaging/man/upsd.8"
-CLIENT = "examples/ups.py"
+CLIENT = "client/ups/"
 SHARED = {"LONGEST": "longest_pdu", "VERSION": "version"}  # the constants of the client that are also the server's
 PAGE = "planted.md"  # of the self-test
 FOR_USERS = ("docs/use/", "README.md", PAGE)  # pages in which each option without a command is one of the program or the client
@@ -107,7 +108,7 @@ BREAK = re.compile(r" {4}|[|#]|\s*(?:[-*]|\d+\.) ")  # begins another paragraph,
 def texts() -> Texts:
     """Returns the texts of the files that are compared."""
     crates = sorted({crate for crate, _ in CONSTANTS.values()} | {"ups_cycle"})
-    forms = ["*.md", "*/README.md", "docs/**/*.md", "examples/**/*.py", MAN_PAGE, *VERSION_NAMES]
+    forms = ["*.md", "*/README.md", "docs/**/*.md", f"{CLIENT}*.py", MAN_PAGE, *VERSION_NAMES]
     forms += [KINDS_FILE, *(f"crates/{it}/src/**/*.rt" for it in crates)]
     found = {}
     for path in sorted(path for form in forms for path in glob.glob(form, root_dir=HERE, recursive=True)):
@@ -234,10 +235,10 @@ def faults_of_man_page(files: Texts) -> Iterator[str]:
 
 
 def faults_of_client(files: Texts, codes: set[int], values: dict[str, Value]) -> Iterator[str]:
-    """Yields the faults of the client of the examples: of its statuses, its longest PDU, its version and its help."""
+    """Yields the faults of the client: of its statuses, its longest PDU, its version and its help."""
     has_statuses = False
-    clients = {path: ast.walk(ast.parse(text)) for path, text in files.items() if path.endswith(".py")}
-    for path, node in ((path, node) for path, nodes in clients.items() for node in nodes):
+    modules = {path: ast.walk(ast.parse(text)) for path, text in client_of(files)}
+    for path, node in ((path, node) for path, nodes in modules.items() for node in nodes):
         if isinstance(node, ast.Dict):
             told = {it.value for it in node.keys if isinstance(it, ast.Constant)}
             is_of_statuses = {0x0000, 0xC300} <= told
@@ -250,7 +251,7 @@ def faults_of_client(files: Texts, codes: set[int], values: dict[str, Value]) ->
         elif isinstance(node, ast.Call) and ast.unparse(node.func).endswith(".add_argument"):
             yield from faults_of_option(path, node, values)
     if not has_statuses:
-        yield "examples: no client has texts for statuses"
+        yield f"{CLIENT}: the client has no texts for statuses"
 
 
 def faults_of_option(path: str, call: ast.Call, values: dict[str, Value]) -> Iterator[str]:
@@ -265,15 +266,23 @@ def faults_of_option(path: str, call: ast.Call, values: dict[str, Value]) -> Ite
         yield f"{path}:{call.lineno}: the default of --host is {default}, and a server listens on {values.get('address')}"
 
 
+def client_of(files: Texts) -> tuple[tuple[str, str], ...]:
+    """Returns the modules of the client: the path and the text of each."""
+    return tuple((path, text) for path, text in sorted(files.items()) if path.startswith(CLIENT))
+
+
 @functools.lru_cache(maxsize=None)
-def commands_of(client: str) -> dict[str, set[str]]:
-    """Returns the options of each command of the client, and those without a command under the empty name. Its text is run, with
+def commands_of(client: tuple[tuple[str, str], ...]) -> dict[str, set[str]]:
+    """Returns the options of each command of the client, and those without a command under the empty name. Its modules are run, with
     nothing in the place of pydicom, of which its parser needs nothing."""
-    module = types.ModuleType("ups")
-    stubs = {name: mock.MagicMock() for name in re.findall(r"from (pydicom[\w.]*) import", client)}
-    with mock.patch.dict(sys.modules, stubs), mock.patch.dict(os.environ, clear=True):
-        exec(compile(client, CLIENT, "exec"), module.__dict__)
-        parser = module.parser()
+    stubs = {name: mock.MagicMock() for _, text in client for name in re.findall(r"from (pydicom[\w.]*) import", text)}
+    with tempfile.TemporaryDirectory() as folder, mock.patch.object(sys, "path", [folder, *sys.path]):
+        os.mkdir(os.path.join(folder, "ups"))
+        for path, text in client:
+            with open(os.path.join(folder, "ups", os.path.basename(path)), "w", encoding="utf-8") as module:
+                module.write(text)
+        with mock.patch.dict(sys.modules, stubs), mock.patch.dict(os.environ, clear=True):
+            parser = importlib.import_module("ups.command_line").parser()
     found = {it.name: {name for option in it.options for name in option.names} for it in commands_of_parser(parser)}
     return {**found, "": set(parser._option_string_actions)}
 
@@ -306,7 +315,7 @@ def options_in(words: str) -> Iterator[str]:
 def faults_of_calls(files: Texts) -> Iterator[str]:
     """Yields each command or option of the client that a page names and the client lacks, and each option in a page for users that
     neither the client nor the program has."""
-    commands = commands_of(files[CLIENT])
+    commands = commands_of(client_of(files))
     sources = "".join(text for path, text in files.items() if path.startswith("crates/ups_args/"))
     known = set.union(*commands.values()) | {f"--{it[1]}" for it in OPTION.finditer(sources)} | {"--version"}
     for path, text in ((path, text) for path, text in files.items() if path.endswith(".md")):
@@ -428,7 +437,7 @@ def page_of(values: dict[str, Value], codes: set[int]) -> str:
     in_mib = spelled("longest_message", values["longest_message"], "MiB")
     lines.append(f"\nas <!--=short-->{values['short']} ms, <!--=longest_message-->{in_mib} MiB")
     lines += ["", "`ups find --state READY -k 'A=--B' | grep --color R`, `--worklists`, `--keep 60`, `ups --help`", ""]
-    lines += ["```sh", 'UPS_AE=A examples/ups.py work --steps 0 -- sh -c "x --y"  # --z', "```"]
+    lines += ["```sh", 'UPS_AE=A client/bin/ups work --steps 0 -- sh -c "x --y"  # --z', "```"]
     lines += ["", "x" * PARAGRAPH, "", f"- {'y' * (PARAGRAPH - 2)}", "", f"| {'z' * CELL} |", "", "```", "w" * (PARAGRAPH + 1), "```"]
     return "\n".join(lines) + "\n"
 
@@ -439,7 +448,7 @@ IN_PAGE = {  # what is spoiled in it: a pattern and its replacement
     "a status that is not marked": (".*C311.*\n", ""), "a marked status": ("C311", "C312"),
     "a paragraph": ("xx\n", "xxx\n"), "a paragraph of two lines": ("xx\n", "x\nx\n"), "an item of a list": ("yy\n", "yyy\n"),
     "a cell": ("zz ", "zzz "), "a command of the client": ("ups find", "ups seek"), "its option": ("--state", "--station-name"),
-    "a short option": ("find --state", "find -s"), "a command in a block": ("py work", "py works"),
+    "a short option": ("find --state", "find -s"), "a command in a block": ("ups work", "ups works"),
     "an option in a block": ("--steps 0", "--step 0"), "an option alone": ("--worklists", "--worklist-labels"),
     "an option of the program": ("--keep 60", "--keeps 60"), "an option without a command": ("ups --help", "ups --helped"),
 }
@@ -474,8 +483,9 @@ def spoiled(files: Texts) -> Iterator[tuple[str, str, str]]:
     for path, text in files.items():
         for it in re.finditer(r"\[default: [^n\]][^\]]*\]", text) if path.startswith("crates/ups_args/") else ():
             yield f"{it[0]} of {path}", path, text[:it.start()] + "[default: 9]" + text[it.end():]
-        for name, change in IN_CLIENT.items() if path.endswith("ups.py") else ():
-            yield f"{name} of the client", path, re.sub(*change, text, count=1)
+        for name, change in IN_CLIENT.items() if path.startswith(CLIENT) else ():
+            if re.search(change[0], text):
+                yield f"{name} of the client", path, re.sub(*change, text, count=1)
         for name, change in IN_MAN_PAGE.items() if path == MAN_PAGE else ():
             yield f"{name} of the man page", path, re.sub(*change, text, count=1)
     for what, path, change in (("a format", FORMATS_PAGE, (r"(?m)^\| 2 \| 0", "| 4 | 0")), ("the version of a format", FORMATS_PAGE, (r"(?m)^\| 2 \| \d", "| 2 | 9")),

@@ -1,8 +1,8 @@
 #!/usr/bin/env python3
-"""Checks the types of check/lib with mypy, as mypy.ini says: each function there has them.
+"""Checks the types of check/lib and of the client with mypy, as mypy.ini says: each function there has them.
 
-    check/typed.py [FILE..]     from the top of the checkout (default: check/lib)
-    check/typed.py --self-test  spoils a type in a copy of check/lib, and checks that this is found
+    check/typed.py [FILE..]     from the top of the checkout (default: check/lib and client/ups)
+    check/typed.py --self-test  spoils a type in a copy of each, and checks that this is found
 
 If mypy is missing, it is installed from the Debian package `mypy`. If that fails, it says so in a line, and nothing is checked. The
 status is 1 if a type is wrong.
@@ -18,9 +18,10 @@ import sys
 import tempfile
 
 HERE = os.path.dirname(os.path.dirname(os.path.abspath(__file__)))
-CHECKED = "check/lib"
+CHECKED = ["check/lib", "client/ups"]
 SECONDS = 180  # in which mypy has to be installed
-SPOILED = ("dicom.py", "def us(number: int) -> bytes:", "def us(number: int) -> str:")
+SPOILED = (("check/lib/dicom.py", "def us(number: int) -> bytes:", "def us(number: int) -> str:"),
+           ("client/ups/moments.py", "def moment_now() -> str:", "def moment_now() -> bytes:"))
 
 
 def is_installed() -> bool:
@@ -44,26 +45,31 @@ def check(files: list[str], folder: str) -> subprocess.CompletedProcess[str]:
 
 
 def self_test() -> int:
-    """Spoils a type in a copy, and returns 1 if that is not found."""
-    name, old, new = SPOILED
+    """Spoils types in a copy, and returns 1 if one is not found."""
     with tempfile.TemporaryDirectory() as folder:
         shutil.copy(os.path.join(HERE, "mypy.ini"), folder)
-        shutil.copytree(os.path.join(HERE, CHECKED), os.path.join(folder, CHECKED))
-        path = os.path.join(folder, CHECKED, name)
-        with open(path, encoding="utf-8") as it:
-            text = it.read()
-        assert text.count(old) == 1, f"{name} lacks {old!r}"
-        with open(path, "w", encoding="utf-8") as it:
-            it.write(text.replace(old, new))
-        is_found = f"{CHECKED}/{name}" in check([CHECKED], folder).stdout
-    print(f"1 spoiled type, {'found' if is_found else 'not found'}")
-    return 0 if is_found else 1
+        for checked in CHECKED:
+            shutil.copytree(os.path.join(HERE, checked), os.path.join(folder, checked))
+        for name, old, new in SPOILED:
+            spoil(os.path.join(folder, name), old, new)
+        said = check(CHECKED, folder).stdout
+    missed = [name for name, _, _ in SPOILED if name not in said]
+    print(f"not found: {', '.join(missed)}" if missed else f"{len(SPOILED)} spoiled types, each found")
+    return 1 if missed else 0
+
+
+def spoil(path: str, old: str, new: str) -> None:
+    with open(path, encoding="utf-8") as it:
+        text = it.read()
+    assert text.count(old) == 1, f"{path} lacks {old!r}"
+    with open(path, "w", encoding="utf-8") as it:
+        it.write(text.replace(old, new))
 
 
 def main() -> int:
     about, _, more = (__doc__ or "").partition("\n\n")
     asked = argparse.ArgumentParser(description=about, epilog=more, formatter_class=argparse.RawDescriptionHelpFormatter)
-    asked.add_argument("files", nargs="*", default=[CHECKED], metavar="FILE")
+    asked.add_argument("files", nargs="*", default=CHECKED, metavar="FILE")
     asked.add_argument("--self-test", action="store_true", help="spoil a type, and see that it is found")
     given = asked.parse_args()
     if not is_installed():

@@ -1,7 +1,7 @@
 #!/usr/bin/python3
 """Fetches the input of a step by C-GET, as the command of `ups work`.
 
-    ups work --worklist ORTHANC --steps 0 --every 5 -- /usr/share/doc/upsd/examples/fetch_study.py {} IN ORTHANC=127.0.0.1:4242
+    ups work --worklist ORTHANC --steps 0 --every 5 -- /usr/share/doc/ups/examples/fetch_study.py {} IN ORTHANC=127.0.0.1:4242
 
 The words are the file with the step, a folder, in which each step gets a folder of its own, and where each title is that the step
 names. It needs `getscu` of DCMTK (Debian: dcmtk). The exit status is 0 only if each instance that the step names has come: then

@@ -1,8 +1,8 @@
 """A plugin of Orthanc that pushes a step to a UPS manager for each study that is stable (PS3.4 section CC.2.5).
 
-It needs the Debian packages orthanc, orthanc-python and upsd (or `ups` elsewhere). In Orthanc's configuration:
+It needs the Debian packages orthanc, orthanc-python and ups. In Orthanc's configuration:
 
-    "PythonScript": "/usr/share/doc/upsd/examples/orthanc_steps.py", "StableAge": 60
+    "PythonScript": "/usr/share/doc/ups/examples/orthanc_steps.py", "StableAge": 60
 
 Environment of Orthanc: UPS_SERVER=HOST:PORT, UPS_CALLED and UPS_AE as for `ups`, UPS_WORKLIST, the label of the worklist
 (ORTHANC), and UPS_COMMAND, the client (ups). The step has the patient, the study, and where to get it: an item of Input Information

@@ -44,7 +44,7 @@ from results import Results
 from server import Server
 from stored import SECONDS, Client, Stored, a_step_of, performed, rows_of
 
-CLIENT = [sys.executable, os.path.join(HERE, "examples/ups.py"), "audit"]
+CLIENT = [sys.executable, os.path.join(HERE, "client/bin/ups"), "audit"]
 A, B, C = b"1.2.3.1", b"1.2.3.2", b"1.2.3.3"
 HOLDER = b"2.25.7"
 NAMES = ("DOE", "JANE", "P-4711", "19700101", "F-LABEL", "ILL")  # values of the steps and of requests on them
@@ -290,7 +290,7 @@ def differs(message: ElementTree.Element, asked: Asked, caller: Caller, machine:
     outcome = "8" if asked.is_refused else "4" if asked.status else "0"
     pairs = [
         (at(message, f"{event}/EventID", "csd-code"), "110112" if is_query else "110103"),
-        (at(message, event, "EventActionCode"), asked.action), (at(message, event, "EventOutcomeIndicator"), outcome),
+        (at(message, event, "EventActionCode"), ACTIONS.get(asked.name, "U")), (at(message, event, "EventOutcomeIndicator"), outcome),
         (at(message, f"{event}/EventTypeCode", "csd-code"), asked.name),
         ([it.get("UserID") for it in message.findall("ActiveParticipant")], [caller.title, "UPSD"]),
         ([it.get("csd-code") for it in message.findall("ActiveParticipant/RoleIDCode")], ["110153", "110152"]),

@@ -52,7 +52,7 @@ from results import Results
 from server import Server
 from stock import PUSH
 
-CLIENT = os.path.join(HERE, "examples", "ups.py")
+CLIENT = os.path.join(HERE, "client", "bin", "ups")
 LIMIT = 1.0  # seconds within which the page shows a state
 LOADS = 2.0  # seconds within which the page of many steps is drawn
 HELD = 1.2  # seconds that a step stays in a state

@@ -1,5 +1,5 @@
 #!/usr/bin/env python3
-"""Runs each command of the client `ups` (examples/ups.py) against a server, and compares what it prints.
+"""Runs each command of the client `ups` (client/bin/ups) against a server, and compares what it prints.
 
     trials/client.py [PROGRAM [WORD..]]      (crates/upsd/out/upsd, which `rt run` builds)
 
@@ -59,7 +59,7 @@ from results import Results
 from server import Server
 from stock import DONE, GLOBAL, NO_ANSWER, OWN, PERFORMED, REFUSED, STEP, Watcher, made, open_association, plain
 
-CLIENT = [sys.executable, os.path.join(HERE, "examples/ups.py")]
+CLIENT = [sys.executable, os.path.join(HERE, "client/bin/ups")]
 LIMIT = 60  # seconds for a command
 ALL = 600  # seconds for all trials
 A, B, C, D = (f"1.2.5.{number}" for number in range(1, 5))
@@ -794,7 +794,7 @@ def try_words(results: Results, folder: str) -> None:
     with open(os.path.join(HERE, "crates/ups_args/src/program.rt"), encoding="utf-8") as source:
         version = re.search(r'VERSION: &str = "([^"]+)"', source.read())
     ran = run("--version")
-    results.tell("--version", wrong(ran, DONE) or (None if version and ran.out == f"ups.py {version[1]}\n" else ran.out))
+    results.tell("--version", wrong(ran, DONE) or (None if version and ran.out == f"ups {version[1]}\n" else ran.out))
     path = os.path.join(folder, "log")
     line = "2026-11-26T10:15:00Z [INFO  upsd] audit: Sweep UPSD, 1 steps\n"
     with open(path, "w", encoding="utf-8") as file:

@@ -41,7 +41,7 @@ def blocks(path: str) -> list[tuple[str, str, list[str]]]:
 def placed(words: str, server: int, watcher: int) -> str:
     """Returns the words of a block with these ports in place of the page's, and the client in a Python that has pydicom."""
     words = words.replace(SERVER, str(server)).replace(WATCHER, str(watcher))
-    return re.sub(r"(?m)^examples/ups\.py", "/usr/bin/python3 examples/ups.py", words)
+    return re.sub(r"(?m)^client/bin/ups", "/usr/bin/python3 client/bin/ups", words)
 
 
 def fault_of(language: str, words: str, wanted: list[str], ports: tuple[int, int]) -> Optional[str]:

@@ -4,7 +4,7 @@
     trials/haproxy.py [PROGRAM]
 
 It takes the configuration as it is, with free ports of this machine in place of its own, with certificates that `openssl` makes
-in a temporary folder, and with checks each second. Through HAProxy examples/ups.py then works at both servers, by the called
+in a temporary folder, and with checks each second. Through HAProxy client/bin/ups then works at both servers, by the called
 title; by plain TCP from the address of its title, and by TLS with a certificate of its title, through a tunnel of `stunnel`, which
 also takes the report that HAProxy sends to the watcher. Other titles, addresses, certificates and bytes get no answer and don't
 reach a server. A server that stands still, and one whose store takes no change, is down until it goes on. A full house, of more

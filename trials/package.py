@@ -1,5 +1,5 @@
 #!/usr/bin/env python3
-"""Makes the Debian package, installs it in a bare Debian that it boots, tries it there, and removes it.
+"""Makes the Debian packages of server and client, installs them in a bare Debian that it boots, tries them there, and removes them.
 
     trials/package.py                  with crates/upsd/out/upsd, which `rt run` builds
     trials/package.py --program PATH   with another program
@@ -88,13 +88,13 @@ def unless(holds_so: bool, fault: str) -> Optional[str]:
 
 # the package by itself
 
-def built(program: str, folder: str) -> str:
-    """Builds a package into a folder, and returns its path."""
+def built(program: str, folder: str) -> list[str]:
+    """Builds the packages into a folder, and returns their paths: that of the client, and that of the server."""
     with_rt = {**QUIET, "PATH": f"{QUIET['PATH']}:{os.environ['PATH']}"}  # which tells whether the program is proved
     ran = subprocess.run(["packaging/build", "--program", program, "--output", folder], capture_output=True, text=True, env=with_rt, cwd=HERE)
     if ran.returncode:
         sys.exit(f"package.py: it can't be built: {tour.last_line(ran.stderr)}")
-    return ran.stdout.strip()
+    return ran.stdout.strip().splitlines()[-2:]
 
 
 def content(path: str) -> bytes:
@@ -138,14 +138,16 @@ def man_pages(root: str) -> Optional[str]:
     return unless(not faults, "; ".join(faults))
 
 
-def try_package(program: str, folder: str, results: Results) -> str:
-    """Builds the package, checks it, and returns its path."""
-    package, other = built(program, folder), built(program, os.path.join(folder, "again"))
-    results.tell("two builds are equal", unless(content(package) == content(other), "they differ"))
-    results.tell("lintian", lint(package))
+def try_packages(program: str, folder: str, results: Results) -> list[str]:
+    """Builds the packages, checks them, and returns their paths."""
+    packages, others = built(program, folder), built(program, os.path.join(folder, "again"))
+    for package, other in zip(packages, others):
+        name = os.path.basename(package).partition("_")[0]
+        results.tell(f"two builds of {name} are equal", unless(content(package) == content(other), "they differ"))
+        results.tell(f"lintian, of {name}", lint(package))
     results.tell("systemd-analyze security", exposure(os.path.join(HERE, "packaging/upsd.service")))
     results.tell("the synopsis of upsd(8)", synopsis(program))
-    return package
+    return packages
 
 
 # a booted Debian
@@ -238,18 +240,23 @@ def write(path: str, text: str) -> None:
         opened.write(text)
 
 
-def depend(machine: Machine, package: str) -> None:
-    """Installs what the package depends on."""
-    depends = re.findall(r"([a-z][\w.-]*)", re.sub(r"\([^)]*\)|:any", "", run("dpkg-deb", "-f", package, "Depends").stdout))
+def depend(machine: Machine, packages: list[str]) -> None:
+    """Installs what the packages depend on, besides one another."""
+    said = [run("dpkg-deb", "-f", it, "Depends").stdout for it in packages]
+    depends = sorted({it for each in said for it in re.findall(r"([a-z][\w.-]*)", re.sub(r"\([^)]*\)|:any", "", each))} - {"ups"})
     shutil.copy("/etc/resolv.conf", machine.path("etc/resolv.conf"))
     ran = machine.run("apt-get", "install", "-y", "--no-install-recommends", *depends, *BESIDES)
     if ran.returncode:
         sys.exit(f"package.py: {' '.join(depends)}: {tour.last_line(ran.stderr)}")
-    shutil.copy(package, machine.path("root/upsd.deb"))
+    for package, name in zip(packages, ("ups", "upsd")):
+        shutil.copy(package, machine.path(f"root/{name}.deb"))
 
 
 def try_installation(machine: Machine, results: Results) -> None:
-    """Installs the package."""
+    """Installs the client by itself, and then the server."""
+    results.tell("install the client", fault_of(machine.run("dpkg", "--install", "/root/ups.deb")))
+    said = machine.says("ups", "--version")
+    results.tell("which runs, without a server", unless(said.startswith("ups ") and machine.run("id", "upsd").returncode != 0, said))
     results.tell("install", fault_of(machine.run("dpkg", "--install", "/root/upsd.deb")))
     states = [*machine.says("systemctl", "is-enabled", *UNITS[1:]).split(), machine.of_unit("ActiveState")]
     results.tell("nothing is enabled or started", unless(states == ["disabled", "disabled", "inactive"], " ".join(states)))
@@ -603,7 +610,7 @@ def make_earlier(machine: Machine) -> None:
         subprocess.run(["dpkg-deb", "--raw-extract", machine.path("root/upsd.deb"), tree], check=True)
         shutil.copy(os.path.join(HERE, "trials/lib/earlier.py"), os.path.join(tree, "usr/bin/upsd"))
         os.chmod(os.path.join(tree, "usr/bin/upsd"), 0o755)
-        for path, pattern, new in (("DEBIAN/control", r"(?m)^Version: .*$", "Version: 0.1.0"),
+        for path, pattern, new in (("DEBIAN/control", r"(?m)^Version: .*$", "Version: 0.3.0~earlier"),
                                    ("lib/systemd/system/upsd.service", r"(?m)^(NoExec|Exec)Paths=.*\n", "")):
             with open(os.path.join(tree, path), encoding="utf-8") as text:
                 changed = re.sub(pattern, new, text.read())
@@ -689,7 +696,7 @@ def try_port(machine: Machine, results: Results) -> None:
 
 def try_removal(machine: Machine, before: set[str], results: Results) -> None:
     """Removes the package, and purges it."""
-    results.tell("remove", fault_of(machine.run("dpkg", "--remove", "upsd")))
+    results.tell("remove", fault_of(machine.run("dpkg", "--remove", "upsd", "ups")))
     left = machine.paths() - before
     stored = {"var/lib/upsd", *(f"var/lib/upsd/upsd.db{it}" for it in ("", "-wal", "-terms"))}
     kept = {"etc/default/upsd", *stored,
@@ -697,7 +704,7 @@ def try_removal(machine: Machine, before: set[str], results: Results) -> None:
     results.tell("a removal keeps words, store and what was enabled alone", unless(left == kept, f"{sorted(left ^ kept)}"))
     runs = "upsd" in machine.says("sh", "-c", "cat /proc/[0-9]*/comm").split()
     results.tell("a removal ends the server", unless(not runs, "it runs"))
-    ran = machine.run("dpkg", "--purge", "upsd")
+    ran = machine.run("dpkg", "--purge", "upsd", "ups")
     results.tell("purge", fault_of(ran) or unless("/var/lib/upsd stays" in ran.stderr, ran.stderr))
     left = machine.paths() ^ before
     results.tell("a purge leaves the store", unless(left == stored, f"{sorted(left)}"))
@@ -705,12 +712,12 @@ def try_removal(machine: Machine, before: set[str], results: Results) -> None:
     results.tell("and the account, which is locked", unless(expires[7:8] == ["1"], ":".join(expires)))
 
 
-def try_in(root: str, package: str, is_checked: bool, results: Results) -> None:
-    """Tries the package in a Debian below a folder."""
+def try_in(root: str, packages: list[str], is_checked: bool, results: Results) -> None:
+    """Tries the packages in a Debian below a folder."""
     with open(os.path.join(HERE, "README.md"), encoding="utf-8") as text:
         commands = [it for it in tour.commands_of(text.read()) if it.is_server or it.text.startswith((tour.CLIENT, "ups "))]
     machine = Machine(root)
-    depend(machine, package)
+    depend(machine, packages)
     with machine.booted():
         if is_checked:
             has_line(machine, "limits", "LimitAS=infinity")
@@ -745,9 +752,9 @@ def main() -> None:
     install(TOOLS)
     results = Results()
     with tempfile.TemporaryDirectory(prefix="upsd-trial-") as folder:
-        package = try_package(os.path.join(HERE, given.program), folder, results)
+        packages = try_packages(os.path.join(HERE, given.program), folder, results)
         with copied(given.root) as root:
-            try_in(root, package, given.checked, results)
+            try_in(root, packages, given.checked, results)
     results.end()
 
 

@@ -37,7 +37,7 @@ from peer import PUSH_ON, Peer, a_step
 from results import Results
 from server import Server
 
-CLIENT = [sys.executable, os.path.join(HERE, "examples/ups.py")]
+CLIENT = [sys.executable, os.path.join(HERE, "client/bin/ups")]
 LIMIT = 60  # seconds for a command
 ALL = 900  # seconds for all trials
 PERFORMERS = 4

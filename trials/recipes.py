@@ -34,7 +34,7 @@ from results import Results
 from server import Server
 
 ALL = 600  # seconds for all trials
-CLIENT = [sys.executable, os.path.join(HERE, "examples/ups.py")]
+CLIENT = [sys.executable, os.path.join(HERE, "client/bin/ups")]
 STUDY, OTHER = "1.2.826.0.1.3680043.8.498.1", "1.2.826.0.1.3680043.8.498.2"
 NAME = "MÜLLER^JÜRGEN"
 SECONDARY_CAPTURE = "1.2.840.10008.5.1.4.1.1.7"

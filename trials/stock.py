@@ -1,5 +1,5 @@
 #!/usr/bin/env python3
-"""Tries `upsd serve` with stock software in its default settings, DCMTK's clients and pydicom, and with examples/ups.py.
+"""Tries `upsd serve` with stock software in its default settings, DCMTK's clients and pydicom, and with client/bin/ups.
 
 It installs them if they are missing (`apt-get install -y dcmtk python3-pydicom`, which needs root; if the Python that
 runs this has no pydicom, it goes on in /usr/bin/python3), starts servers on free ports of this machine, and ends by
@@ -12,7 +12,7 @@ itself. It prints a line for each trial that fails, and in the end how many pass
     pydicom      writes and reads the command sets and data sets of the life of five steps, once in Implicit and once in
                  Explicit VR Little Endian: each is created, and then claimed, set, completed, canceled by request or by
                  its performer, queried, and watched by a subscription to it or to all
-    ups.py       the client of the examples, one association for each command: the life of three steps, of which one is
+    ups          the client of this checkout, one association for each command: the life of three steps, of which one is
                  completed, one is canceled by request and one by its performer, with a watcher that takes its reports;
                  texts with umlauts and in Cyrillic, in UTF-8 and in a named character set, which are shown, found and
                  reported as they were given; keys within sequences, and the worklist of a station
@@ -61,7 +61,7 @@ TRIALS = [
     ("C-ECHO again", ["echoscu", "-v"], 0, "Received Echo Response (Success)", "serve: Released"),
 ]
 
-# the trials of examples/ups.py, in order: a name, the words, the exit status, and part of what is printed
+# the trials of client/bin/ups, in order: a name, the words, the exit status, and part of what is printed
 DONE, REFUSED, NO_ANSWER = 0, 1, 2
 F, G, H = "1.2.3.6", "1.2.3.7", "1.2.3.8"
 UMLAUTS, CYRILLIC, LATIN = "1.2.3.10", "1.2.3.11", "1.2.3.12"
@@ -158,28 +158,28 @@ def by_dcmtk(server, words, status, told, logged):
 
 
 def by_client(words: list[str], status: int, told: str) -> Optional[str]:
-    """Returns why a trial of examples/ups.py fails, or None."""
-    client = [sys.executable, os.path.join(HERE, "examples/ups.py"), *words]
+    """Returns why a trial of client/bin/ups fails, or None."""
+    client = [sys.executable, os.path.join(HERE, "client/bin/ups"), *words]
     try:
         utf_8 = {**os.environ, "PYTHONIOENCODING": "utf-8"}
         ran = subprocess.run(client, capture_output=True, encoding="utf-8", timeout=LIMIT, env=utf_8)
     except subprocess.TimeoutExpired:
-        return f"ups.py {' '.join(words)} does not end"
+        return f"ups {' '.join(words)} does not end"
     said = ran.stdout + ran.stderr
     if ran.returncode != status:
-        return f"ups.py {' '.join(words)} ended with {ran.returncode} and not {status}: {said.strip()}"
-    return None if told in said else f"ups.py {' '.join(words)} did not tell {told!r}: {said.strip()}"
+        return f"ups {' '.join(words)} ended with {ran.returncode} and not {status}: {said.strip()}"
+    return None if told in said else f"ups {' '.join(words)} did not tell {told!r}: {said.strip()}"
 
 
 def live_by_client(program: list[str], results: Results, reports: bool) -> None:
-    """Tries the life of steps through examples/ups.py, with or without its reports."""
+    """Tries the life of steps through client/bin/ups, with or without its reports."""
     watcher = free_port()
     with Server(program, "--timeout", "10", "--keep", "3600", f"WATCHER=127.0.0.1:{watcher}") as server:
         for name, words, status, told in CLIENT:
             if words is not REPORTS:
-                results.tell(f"ups.py, {name}", by_client([*words, "--port", str(server.port)], status, told))
+                results.tell(f"ups, {name}", by_client([*words, "--port", str(server.port)], status, told))
             elif reports:
-                results.tell(f"ups.py, {name}", by_client([*words, "--listen", str(watcher)], status, told))
+                results.tell(f"ups, {name}", by_client([*words, "--listen", str(watcher)], status, told))
 
 
 # pydicom: data sets are given by keyword, a sequence as a list of items

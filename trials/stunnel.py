@@ -4,7 +4,7 @@
     trials/stunnel.py [PROGRAM]
 
 It takes the configurations as the page has them, with free ports of this machine in place of theirs and with certificates
-that `openssl` makes in a temporary folder. Through both tunnels examples/ups.py then asks for an echo, creates a step, claims
+that `openssl` makes in a temporary folder. Through both tunnels client/bin/ups then asks for an echo, creates a step, claims
 and finishes it, and takes its report. A client without a certificate, and one with a certificate that the server doesn't
 know, get no answer.
 

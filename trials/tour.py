@@ -32,7 +32,7 @@ from machine import HERE, holds, install, listens
 from results import Results
 
 PROGRAM = "crates/upsd/out/upsd"
-CLIENT = "examples/ups.py"
+CLIENT = "client/bin/ups"
 SERVER_PORT, WATCHER_PORT = 11112, 11113  # the ports that the README names
 LIMIT = 60  # seconds for a command, except those of `rt`
 

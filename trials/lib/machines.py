@@ -59,7 +59,7 @@ def settings() -> dict[str, str]:
 
 
 def make(work: str, program: str, is_checked: bool) -> None:
-    """Makes the image from which all machines start, with the package of upsd. A program that is built with checks gets no LimitAS."""
+    """Makes the image from which all machines start, with the packages of upsd and its client. A program that is built with checks gets no LimitAS."""
     root = os.path.join(work, "root")
     if not os.path.exists(os.path.join(root, "usr/sbin/pacemakerd")):
         run("debootstrap", "--variant=minbase", f"--include={PACKAGES}", "bookworm", root)
@@ -68,9 +68,9 @@ def make(work: str, program: str, is_checked: bool) -> None:
         put(os.path.join(root, path), text)
     if is_checked:
         put(os.path.join(root, "etc/systemd/system/upsd.service.d/checked.conf"), "[Service]\nLimitAS=infinity\n")
-    package = run(os.path.join(HERE, "packaging/build"), "--program", program, "--output", work).strip().splitlines()[-1]
-    shutil.copy(package, os.path.join(root, "root/upsd.deb"))
-    run("chroot", root, "dpkg", "--force-confold", "-i", "/root/upsd.deb")
+    for package in run(os.path.join(HERE, "packaging/build"), "--program", program, "--output", work).strip().splitlines()[-2:]:
+        shutil.copy(package, os.path.join(root, "root"))
+        run("chroot", root, "dpkg", "--force-confold", "-i", f"/root/{os.path.basename(package)}")
     run("sh", "-c", f"rm -f {root}/var/lib/upsd/upsd.db*")  # the store is that of the volume
     os.makedirs(root + VOLUME, exist_ok=True)
     put(os.path.join(root, "etc/fstab"), "/dev/vda / ext4 defaults 0 1\n")

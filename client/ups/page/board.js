@@ -1,0 +1,239 @@
+"use strict";
+const STATES = ["SCHEDULED", "IN PROGRESS", "COMPLETED", "CANCELED"];
+const MARKS = {agree: ["=", "worklist and reports agree"], waiting: ["\u2026", "a report is on its way"],
+  differ: ["\u2260", "worklist and reports differ"]};
+const at = id => document.getElementById(id);
+const many = n => n.toLocaleString("en");
+const TOKEN = new URLSearchParams(location.search).get("token") || "";
+let seen = 0, began = 0, chosen = null, chosenMark = "", asking = null, last = null;
+
+function make(name, of, text) {
+  const made = document.createElement(name);
+  if (of) made.className = of;
+  if (text !== undefined) made.textContent = text;
+  return made;
+}
+function put(node, text) { if (node.textContent !== text) node.textContent = text; }
+function clock(seconds) {
+  const then = new Date(seconds * 1000), time = then.toLocaleTimeString("en-GB");
+  return then.toDateString() === new Date().toDateString() ? time : then.toLocaleDateString("en-CA") + " " + time;
+}
+function since(seconds) { return seconds ? clock(seconds) : "before " + clock(began); }
+function age(seconds) {
+  const whole = Math.max(0, Math.floor(Date.now() / 1000 - seconds)), minutes = Math.floor(whole / 60), hours = Math.floor(minutes / 60);
+  if (whole < 60) return whole + " s";
+  if (minutes < 60) return minutes + " min";
+  return hours < 48 ? `${hours} h ${minutes % 60} min` : `${Math.floor(hours / 24)} d ${hours % 24} h`;
+}
+function moment(text) {  /* a DT, as 20240229120000+0100 */
+  const part = text.match(/^(\d{4})(\d\d)(\d\d)(\d\d)?(\d\d)?/);
+  if (!part) return text;
+  const day = part.slice(1, 4).join("-"), today = new Date().toLocaleDateString("en-CA");
+  return [day === today && part[4] ? "" : day, part[4] ? part[4] + ":" + (part[5] || "00") : ""].filter(Boolean).join(" ");
+}
+function setMark(node, mark) {
+  put(node, MARKS[mark][0]);
+  node.className = "mark " + mark;
+  node.title = MARKS[mark][1];
+  node.setAttribute("aria-label", MARKS[mark][1]);
+}
+
+const columns = new Map(STATES.map((state, number) => {
+  const column = make("section", "column"), head = make("header"), counts = make("div", "counts");
+  column.dataset.state = state;
+  column.setAttribute("aria-labelledby", "h-" + number);
+  const title = make("h2", "", state);
+  title.id = "h-" + number;
+  const [listed, mark, told] = [make("div"), make("span", "mark"), make("div")];
+  for (const [box, word] of [[listed, "worklist"], [told, "reports"]]) box.append(make("b", "", "0"), make("span", "", word));
+  mark.setAttribute("role", "img");
+  counts.append(listed, mark, told);
+  head.append(title, counts);
+  const list = make("ol"), more = make("p", "more");
+  list.setAttribute("aria-label", "Steps that are " + state);
+  column.append(head, list, more);
+  at("columns").append(column);
+  return [state, {listed: listed.firstChild, told: told.firstChild, mark, list, more, cards: new Map()}];
+}));
+
+function newCard(uid) {
+  const place = make("li"), card = make("button", "card");
+  card.type = "button";
+  card.dataset.uid = uid;
+  for (const name of ["label", "mark", "patient", "where"]) card.append(make("span", name));
+  card.children[1].setAttribute("role", "img");
+  card.addEventListener("click", () => choose(uid));
+  place.append(card);
+  return place;
+}
+function whereOf(row) {
+  if (row.state === "SCHEDULED") return [row.station, moment(row.start)].filter(Boolean).join(", ");
+  const when = since(row.since), held = row.claimed;
+  if (row.state === "IN PROGRESS") return `${row.holder || "held"} since ${since(held)}, ${held ? "" : "over "}${age(held || began)}`;
+  return [row.holder, when].filter(Boolean).join(", ");
+}
+function fill(place, row) {
+  const card = place.firstChild, [label, mark, patient, where] = card.children;
+  const looks = JSON.stringify([row.label, row.priority, row.readiness]);
+  if (label.dataset.looks !== looks) {
+    label.dataset.looks = looks;
+    label.replaceChildren(make("span", "", row.label));
+    if (row.priority === "HIGH") label.append(make("span", "flag", "HIGH"));
+    if (row.readiness !== "READY") label.append(make("span", "flag", row.readiness));
+  }
+  if (mark.dataset.mark !== row.mark) setMark(mark, mark.dataset.mark = row.mark);
+  put(patient, patientOf(row));
+  put(where, whereOf(row));
+  const pressed = String(row.uid === chosen);
+  if (card.getAttribute("aria-pressed") !== pressed) card.setAttribute("aria-pressed", pressed);
+}
+function drawColumn(state, told) {
+  const it = columns.get(state), rows = told.rows[state] || [], wanted = new Set(rows.map(row => row.uid));
+  for (const [uid, place] of it.cards) if (!wanted.has(uid)) { place.remove(); it.cards.delete(uid); }
+  let next = it.list.firstChild;
+  for (const row of rows) {
+    let place = it.cards.get(row.uid);
+    if (!place) it.cards.set(row.uid, place = newCard(row.uid));
+    if (place === next) next = next.nextSibling; else it.list.insertBefore(place, next);
+    fill(place, row);
+  }
+  const listed = told.counts[state] || 0, reported = told.toldCounts[state] || 0, found = told.found[state] || 0;
+  put(it.listed, many(listed));
+  put(it.told, many(reported));
+  setMark(it.mark, listed === reported ? "agree" : told.differing.length ? "differ" : "waiting");
+  put(it.more, found > rows.length ? `${many(rows.length)} newest of ${many(found)}: search for others`
+    : at("find").value && listed ? `${many(found)} of ${many(listed)} found` : "");
+}
+function drawTop(told) {
+  document.title = told.title;
+  put(at("title"), told.title);
+  put(at("where"), told.where);
+  const kind = told.differing.length ? "differ" : told.waiting || !told.asked ? "waiting" : "agree";
+  at("verdict").className = "verdict " + kind;
+  put(at("verdict"), !told.asked ? "The worklist is being asked for"
+    : kind === "agree" ? `Worklist and reports agree on ${many(told.steps)} steps`
+    : kind === "differ" ? `Worklist and reports differ on ${many(told.waiting)} of ${many(told.steps)} steps`
+    : `Reports are coming: ${many(told.steps - told.waiting)} of ${many(told.steps)} steps agree`);
+  const asked = `asked as a whole at ${clock(told.asked)}, in ${many(Math.round(told.took * 1000))} ms`;
+  put(at("asked"), told.asked ? asked + (told.notice && "; " + told.notice) : "");
+  put(at("trouble"), told.trouble);
+  at("trouble").hidden = !told.trouble;
+}
+function patientOf(row) {
+  return [row.patient.replace(/\^+$/, "").replace(/\^/g, ", "), row.id].filter(Boolean).join("  \u00b7  ") || "no patient";
+}
+function drawLongest(told) {
+  at("longest").hidden = !told.longest.length;
+  const list = at("longest").querySelector("ol");
+  if (list.dataset.uids !== told.longest.map(row => row.uid).join()) {
+    list.dataset.uids = told.longest.map(row => row.uid).join();
+    list.replaceChildren(...told.longest.map(row => {
+      const place = make("li"), button = make("button");
+      button.type = "button";
+      button.addEventListener("click", () => choose(row.uid));
+      place.append(button);
+      return place;
+    }));
+  }
+  told.longest.forEach((row, place) => put(list.children[place].firstChild, `${age(row.due)}: ${row.label}, ${patientOf(row)}`));
+}
+function drawAges() {
+  if (!last) return;
+  drawLongest(last);
+  for (const row of last.rows["IN PROGRESS"] || []) {
+    const place = columns.get("IN PROGRESS").cards.get(row.uid);
+    if (place) put(place.firstChild.lastChild, whereOf(row));
+  }
+}
+function draw(told) {
+  seen = told.version;
+  if (!told.rows) return;
+  began = told.began;
+  last = told;
+  drawTop(told);
+  drawLongest(told);
+  for (const state of STATES) drawColumn(state, told);
+  document.body.dataset.version = told.version;
+  const row = chosen && STATES.flatMap(state => told.rows[state] || []).find(row => row.uid === chosen);
+  const looks = row ? JSON.stringify(row) : "";
+  if (chosen && looks !== chosenMark) { chosenMark = looks; showChosen(); }
+}
+
+function line(name, listed, told, mark) {
+  const row = make("tr"), head = make("th", "", name), last = make("td", "mark");
+  head.scope = "row";
+  setMark(last, listed === told ? "agree" : mark === "agree" ? "waiting" : mark);
+  row.append(head, make("td", "", listed || "-"), make("td", "", told === null ? "no report" : told || "-"), last);
+  return row;
+}
+function heldText(step) {
+  const row = step.row, told = step.told;
+  if (!row) return "The worklist has it no more.";
+  if (row.state === "SCHEDULED") return "Nobody holds it.";
+  const who = row.holder || "A performer that has not said its station", held = told && told.held, changed = told && told.since;
+  const claimed = row.begun || held;
+  if (row.state === "IN PROGRESS") return `${who} holds it since ${since(claimed)}` + (claimed ? `, for ${age(claimed)}.` : ".");
+  const holder = row.holder ? `, held by ${who}` + (held ? ` since ${clock(held)}` : "") : "";
+  return `${row.state} ${changed ? "at " : ""}${since(changed)}${holder}.`;
+}
+function showStep(step) {
+  put(at("d-label"), step.row ? step.row.label : "A step");
+  put(at("d-uid"), step.uid);
+  put(at("held"), heldText(step));
+  const told = step.told, row = step.row || {state: "", readiness: ""};
+  at("both").replaceChildren(line("State", row.state, told ? told.state : null, step.mark),
+    line("Input", row.readiness, told ? told.readiness : null, step.mark));
+  at("life").replaceChildren(...step.life.map(each => {
+    const place = make("li"), text = make("span");
+    text.append(make("span", "soft", each.event + (each.text ? ": " : "")), each.text);
+    place.append(make("time", "", clock(each.moment)), text);
+    return place;
+  }));
+  at("attributes").replaceChildren(...step.attributes.map(each => {
+    const row = make("tr"), head = make("th", "deep" + Math.min(each.deep, 6), each.name);
+    head.scope = "row";
+    head.append(make("small", "", each.tag));
+    row.append(head, make("td", "", each.value));
+    return row;
+  }));
+  at("detail").hidden = false;
+}
+async function showChosen() {
+  const uid = chosen;
+  try {
+    const step = await (await fetch("/step?" + new URLSearchParams({token: TOKEN, uid}))).json();
+    if (uid === chosen && step.uid) showStep(step);
+  } catch (fault) { /* the next poll tells it */ }
+}
+function choose(uid) {
+  chosen = chosen === uid ? null : uid;
+  chosenMark = "";
+  for (const card of document.querySelectorAll(".card")) card.setAttribute("aria-pressed", String(card.dataset.uid === chosen));
+  if (chosen) showChosen(); else at("detail").hidden = true;
+}
+at("close").addEventListener("click", () => chosen && choose(chosen));
+document.addEventListener("keydown", event => { if (event.key === "Escape" && chosen) choose(chosen); });
+
+async function poll() {
+  asking = new AbortController();
+  let pause = 150;
+  try {
+    const words = new URLSearchParams({token: TOKEN, seen, find: at("find").value});
+    draw(await (await fetch("/state?" + words, {signal: asking.signal})).json());
+  } catch (fault) {
+    if (fault.name !== "AbortError") {
+      put(at("trouble"), "The board does not answer: is it still running?");
+      at("trouble").hidden = false;
+      pause = 1000;
+      seen = 0;
+    }
+  }
+  setTimeout(poll, pause);
+}
+let typing = 0;
+at("find").addEventListener("input", () => {
+  clearTimeout(typing);
+  typing = setTimeout(() => { seen = 0; asking.abort(); }, 120);
+});
+setInterval(drawAges, 1000);
+poll();

@@ -1,0 +1,82 @@
+"""The commands that change nothing: echo, find, get, export."""
+
+from __future__ import annotations
+
+import argparse
+import itertools
+import sys
+from typing import Optional
+
+from pydicom.dataelem import DataElement
+
+from ups.association import Association, associated
+from ups.datasets import read
+from ups.dicom_json import as_json, json_line
+from ups.faults import Unwritable
+from ups.operations import get_step, matched
+from ups.terms import CHARACTER_SET, PULL, VERIFICATION, is_done, told
+
+# what `find` shows besides the keys that it is given
+COLUMNS = ("PatientName", "PatientID", "ScheduledProcedureStepStartDateTime", "ProcedureStepState",
+           "ScheduledProcedureStepPriority", "ProcedureStepLabel")
+
+
+def echo(association: Association, _: argparse.Namespace) -> int:
+    return association.status_of(VERIFICATION, {"AffectedSOPClassUID": VERIFICATION, "CommandField": 0x0030})
+
+
+def shown(element: DataElement) -> str:
+    """Returns the value of an element as text; for a sequence the values of its items, in braces."""
+    if element.VR != "SQ":
+        return str(element.value) or "-"
+    return "{" + ", ".join(" ".join(shown(each) for each in one) for one in element.value) + "}" if element.value else "-"
+
+
+def find(association: Association, asked: argparse.Namespace) -> int:
+    """Prints the matches of a query, or the first of them: a server answers a whole query."""
+    steps, status = matched(association, asked, COLUMNS)
+    first = [read(data, association.implicit) for data in itertools.islice(steps.values(), asked.limit)]
+    if asked.json:
+        print(as_json(first))
+    else:
+        for each in first:
+            print("  ".join(shown(element) for element in each if element.tag != CHARACTER_SET))
+    of = f"{len(first)} of " if len(first) < len(steps) else ""
+    print(f"{of}{len(steps)} found", file=asked.aside)
+    return status
+
+
+def line_of(association: Association, uid: str) -> tuple[Optional[str], str]:
+    """Returns all attributes of a step as DICOM JSON, or None and why there are none."""
+    status, found = get_step(association, uid)
+    if found is None or not is_done(status):
+        return None, told(status)
+    try:
+        return json_line(found), ""
+    except Unwritable as fault:
+        return None, str(fault)
+
+
+def export(asked: argparse.Namespace) -> int:
+    """Prints all attributes of the steps that match, as an array of DICOM JSON, each on a line."""
+    count, left = 0, 0
+    with associated(asked, [PULL]) as association:
+        steps, status = matched(association, asked, ())
+        for uid in steps:
+            line, why = line_of(association, uid)
+            if line is None:
+                left += 1
+                print(f"{uid}: {why}", file=sys.stderr)
+            else:
+                sys.stdout.write(("," if count else "[") + ("\n" if count else "") + line)
+                count += 1
+    print("]" if count else "[]")
+    print(f"{count} exported, {left} left\n{told(status)}", file=sys.stderr)
+    return 0 if is_done(status) and not left else 1
+
+
+def get(association: Association, asked: argparse.Namespace) -> int:
+    status, found = get_step(association, asked.step)
+    if found is not None:
+        print(as_json([found]) if asked.json else found)
+    return status
