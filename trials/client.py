@@ -19,12 +19,13 @@ failed. trials/stock.py has the life of steps through the client, and trials/boa
     announce     what a watcher that listens here is told
     moving       steps with every VR, nested sequences and three character sets go to another server by `export` and `import`, and
                  are equal there, attribute by attribute; one that is claimed or final is left and named; templates
-    environment  UPS_SERVER, UPS_CALLED and UPS_AE in place of options
-    work         a step that is done, and the claims that `status` names
+    environment  UPS_SERVER, UPS_CALLED and UPS_AE in place of options; the start of a new step has this machine's offset from UTC
+    work         a step that is done, one whose command fails twice, and the claims that `status` names
     scripts      each line of `watch --json` is out, and each command of `--exec` has ended, before the report is answered; nothing
                  is answered for a reader that is gone
     strangers    `watch`, also with --json and --exec, `board`, and an address that --allow does not name: whatever strangers send
                  ends their association alone, with a line; the next report is taken. Commands with a server that sends such things
+    people       the heading and the columns of `find` on a terminal, and none elsewhere; what -v tells
     words        numbers that are none or too large end no command by a traceback; an interrupt, a reader that is gone, --version
 """
 
@@ -414,7 +415,7 @@ def try_health(results: Results, program: list[str], folder: str) -> None:
         server.process.send_signal(signal.SIGSTOP)
         ran = run("health", "--within", "1", *place)
         server.process.send_signal(signal.SIGCONT)
-        results.tell("health of a server that stands still", wrong(ran, 2, "UPS CRITICAL - no answer came in time"))
+        results.tell("health of a server that stands still", wrong(ran, 2, f"UPS CRITICAL - 127.0.0.1:{server.port}: no answer came in time"))
         results.tell("health of a server that goes on", wrong(run("health", *place), 0))
     results.tell("health of nobody", wrong(run("health", "--port", "1"), 2, "UPS CRITICAL - ", "refused"))
     results.tell("health with wrong words", wrong(run("health", "--within", "0"), 3, "is no duration"))
@@ -592,14 +593,64 @@ def try_environment(results: Results, port: int) -> None:
     results.tell("claim makes a Transaction UID", wrong(ran, DONE) or (None if is_uid else ran.out))
     ran = run("finish", "1.2.12.1", "--transaction", transaction, **server)
     results.tell("with which the step is finished", wrong(ran, DONE, "0000"))
+    for zone, offset in (("Asia/Kolkata", "+0530"), ("<-03>3", "-0300"), ("UTC", "+0000")):
+        uid = run("create", **server, TZ=zone).out.split("\n")[0]
+        start = json_of(run("get", "--json", uid, **server))[uid]["00404005"]["Value"][0]
+        late = abs(datetime.datetime.strptime(start, "%Y%m%d%H%M%S%z").timestamp() - time.time())
+        results.tell(f"the start of a new step in {zone}", None if start.endswith(offset) and late < LIMIT else start)
+        run("cancel", uid, **server)
 
 
-def try_work(results: Results, port: int) -> None:
+def on_terminal(*words: str) -> Ran:
+    """Runs the client with a terminal as its standard output."""
+    ours, its = os.openpty()
+    process = subprocess.Popen([*CLIENT, *words], stdout=its, stderr=subprocess.PIPE, encoding="utf-8")
+    os.close(its)
+    said = b""
+    with contextlib.suppress(OSError):  # the end of a terminal
+        while more := os.read(ours, 1 << 16):
+            said += more
+    error = process.stderr.read() if process.stderr else ""
+    os.close(ours)
+    return Ran(process.wait(LIMIT), said.decode().replace("\r\n", "\n"), error)
+
+
+def try_people(results: Results, port: int) -> None:
+    """Tries what `find` prints on a terminal, and what -v tells."""
+    place = ["--port", str(port)]
+    uid, name = "1.2.12.9", "田中^太郎"
+    run("create", uid, "--worklist", "PEOPLE", "--patient-name", name, "--label", "CT READ", "--start", OLDEST, *place)
+    ran = on_terminal("find", "--worklist", "PEOPLE", "-k", "AdmissionID=", *place)
+    wanted = ["STEP      PATIENT    PATIENT ID  AdmissionID  START                STATE      PRIORITY  WorklistLabel  LABEL",
+              f"{uid}  {name}  -           -            {OLDEST}  SCHEDULED  MEDIUM    PEOPLE         CT READ", "1 found", "0000 success", ""]
+    results.tell("find on a terminal", wrong(ran, DONE) or (None if ran.out.split("\n") == wanted else ran.out))
+    ran = on_terminal("find", "--worklist", "nobody", *place)
+    results.tell("and without an answer", None if ran.out == "0 found\n0000 success\n" else ran.out)
+    ran = run("find", "--worklist", "PEOPLE", "-k", "AdmissionID=", *place)
+    line = f"{uid}  {name}  -  -  {OLDEST}  SCHEDULED  MEDIUM  PEOPLE  CT READ\n1 found\n0000 success\n"
+    results.tell("find elsewhere", None if ran.out == line else ran.out)
+    ran = run("find", "--worklist", "PEOPLE", "-v", *place)
+    told = [f"127.0.0.1:{port} -> A-ASSOCIATE-RQ, ", "CLIENT calls UPSD; 1 UPS Pull in Explicit VR Little Endian; ", "<- A-ASSOCIATE-AC, ",
+            "1 accepted in Explicit VR Little Endian; ", "1 C-FIND-RQ", "1 C-FIND-RSP, status FF00", "status 0000", "<- A-RELEASE-RP, 10 bytes"]
+    fault = wrong(ran, DONE, *told) or (None if name not in ran.error and "PEOPLE" not in ran.error else "it tells values")
+    results.tell("-v tells what is negotiated, and no value", fault)
+    run("cancel", uid, *place)
+
+
+def try_work(results: Results, port: int, folder: str) -> None:
     """Tries `work`, of which trials/performers.py has more, and what `status` tells of claims."""
     place = ["--port", str(port)]
     run("create", "1.2.12.2", "--worklist", "WORK", *place)
     ran = run("work", "--worklist", "WORK", *place, "--", "sh", "-c", 'test "$UPS_STEP" = 1.2.12.2')
     results.tell("work", wrong(ran, DONE, "1.2.12.2: COMPLETED: 0000 success"))
+    run("create", "1.2.12.4", "--worklist", "WORK", *place)
+    script = f'echo x >> {folder}/tries; test "$(wc -l < {folder}/tries)" = 3'
+    ran = run("work", "--worklist", "WORK", "--retries", "2", *place, "--", "sh", "-c", script)
+    results.tell("work, at the third try", wrong(ran, DONE, "1.2.12.4: sh ended with 1, and is run again in 1 s", "again in 2 s",
+                                                 "1.2.12.4: COMPLETED: 0000 success"))
+    run("create", "1.2.12.5", "--worklist", "WORK", *place)
+    ran = run("work", "--worklist", "WORK", "--retries", "1", *place, "--", "false")
+    results.tell("work, which fails each time", wrong(ran, REFUSED, "again in 1 s", "1.2.12.5: CANCELED, false ended with 1: 0000 success"))
     results.tell("work with nothing to do", wrong(run("work", "--worklist", "WORK", *place, "--", "true"), NO_STEP))
     results.tell("work without its command", wrong(run("work", *place, "--", "no-such-command"), NO_ANSWER, "there is no command"))
     run("create", "1.2.12.3", "--start", OLDEST, "--label", "HELD", *place)
@@ -782,6 +833,8 @@ WRONG: list[tuple[str, int, str]] = [
     ("work --every 99999999999", NO_ANSWER, "is no number of seconds"), ("health --within 99999999", 3, "is no duration"),
     ("status --nagios --timeout 0", 3, "is no duration"), ("echo --host nowhere..invalid", NO_ANSWER, "is no name of a host"),
     ("echo --port 1", NO_ANSWER, "127.0.0.1:1: Connection refused"), ("export --port 1", NO_ANSWER, "127.0.0.1:1: Connection refused"),
+    ("work --retries -1", NO_ANSWER, "is no count"), ("echo --tls-ca /none", NO_ANSWER, "refused"),
+    ("watch --tls --listen 0", NO_ANSWER, "needs --tls-certificate"), ("announce W1=127.0.0.1:1", NO_ANSWER, "W1: 127.0.0.1:1: Connection"),
     ("board --server-port 1 --address 127.0.0.1 --listen 1 --port 1 --timeout 0", NO_ANSWER, "is no duration"),
 ]
 
@@ -891,7 +944,8 @@ def main() -> None:
             try_json(results, server.port)
             try_status(results, server.port, folder)
             try_environment(results, server.port)
-            try_work(results, server.port)
+            try_work(results, server.port, folder)
+            try_people(results, server.port)
         with Server(asked.program, "--keep", "3600") as server:
             wire = open_association(server.port, [each.encode() for each in stock.CONTEXTS], stock.EXPLICIT, LIMIT)
             try_check(results, wire, folder)

@@ -6,7 +6,8 @@
 It takes the configurations as the page has them, with free ports of this machine in place of theirs and with certificates
 that `openssl` makes in a temporary folder. Through both tunnels client/bin/ups then asks for an echo, creates a step, claims
 and finishes it, and takes its report. A client without a certificate, and one with a certificate that the server doesn't
-know, get no answer.
+know, get no answer. The client then does the same by a TLS of its own, without a tunnel at the workstation: it takes no other
+certificate of the server, and no other name in it; a listener of it takes no peer without a certificate, and goes on.
 
 It installs what is missing (`apt-get install -y stunnel4 openssl python3-pydicom`, which needs root), and ends by itself. It
 prints a line for each trial, and then `N passed, M failed`. The exit status is 1 if any failed.
@@ -19,9 +20,12 @@ import contextlib
 import os
 import re
 import shutil
+import socket
+import ssl
 import subprocess
 import sys
 import tempfile
+import threading
 from typing import Iterator
 
 sys.path.insert(0, os.path.join(os.path.dirname(os.path.dirname(os.path.abspath(__file__))), "check/lib"))
@@ -30,7 +34,7 @@ from results import Results
 from server import Server
 from stock import DONE, NO_ANSWER, by_client
 
-STEP = "1.2.3.1"
+STEP, OTHER_STEP = "1.2.3.1", "1.2.3.2"
 HOLDER = ["--transaction", "2.25.7"]
 # the ports of the page: of the server, of TLS before it, of the tunnel to the watcher, of TLS before the watcher, of the watcher
 SERVER, SERVER_TLS, TUNNEL, WATCHER_TLS, WATCHER = 11112, 2762, 11121, 2763, 11113
@@ -66,7 +70,7 @@ def placed(configuration: str, folder: str, ports: dict[int, int]) -> str:
 
 def certify(folder: str, name: str) -> None:
     """Makes a key and a self-signed certificate."""
-    words = ["openssl", "req", "-x509", "-newkey", "rsa:2048", "-nodes", "-days", "1", "-subj", f"/CN={name}",
+    words = ["openssl", "req", "-x509", "-newkey", "rsa:2048", "-nodes", "-days", "1", "-subj", f"/CN={name}", "-addext", f"subjectAltName=DNS:{name}",
              "-keyout", f"{folder}/{name}.key", "-out", f"{folder}/{name}.crt"]
     subprocess.run(words, check=True, capture_output=True)
 
@@ -106,6 +110,51 @@ def live(port: int, watcher: int, results: Results) -> None:
     results.tell("watch", by_client(watch, DONE, REPORT))
 
 
+def own(folder: str, *more: str, ca: str = "server", name: str = "station") -> list[str]:
+    """Returns the options of a client that speaks TLS itself."""
+    return ["--tls-ca", f"{folder}/{ca}.crt", "--tls-certificate", f"{folder}/{name}.crt", "--tls-key", f"{folder}/{name}.key",
+            "--tls-name", "server", *more]
+
+
+def live_by_itself(folder: str, port: int, watcher: int, results: Results) -> None:
+    """Tries the life of a step by the client's own TLS, and its report, which comes through the tunnel of the server."""
+    place = ["--port", str(port)]
+    for name, words, told in LIFE:
+        step = [it.replace(STEP, OTHER_STEP) for it in words]
+        results.tell(f"{name}, by itself", by_client([*step, *place, *own(folder)], DONE, told))
+    watch = ["watch", "--ae", "WATCH1", "--associations", "1", "--listen", str(watcher)]
+    results.tell("who listens needs a certificate", by_client([*watch, "--tls"], NO_ANSWER, "needs --tls-certificate"))
+    strangers = threading.Thread(target=knock, args=(watcher, folder))
+    strangers.start()
+    results.tell("watch, by itself", by_client([*watch, *own(folder)], DONE, REPORT.replace(STEP, OTHER_STEP)))
+    strangers.join()
+    wrong = [("another certificate of the server", own(folder, ca="stranger"), "TLS: the certificate of the peer is not taken"),
+             ("another name in it", own(folder, "--tls-name", "127.0.0.1"), "is not valid for '127.0.0.1'"),
+             ("no certificate of its own", ["--tls-ca", f"{folder}/server.crt", "--tls-name", "*"], f"127.0.0.1:{port}: "),
+             ("a certificate that the server does not know", own(folder, name="stranger"), f"127.0.0.1:{port}: "),
+             ("no TLS", [], f"127.0.0.1:{port}: "), ("a file that is missing", ["--tls-ca", f"{folder}/none"], "No such file")]
+    for name, words, told in wrong:
+        results.tell(f"by itself, with {name}", by_client(["echo", *place, *words, "--timeout", "10"], NO_ANSWER, told))
+    said = by_client(["echo", *place, *own(folder), "-v"], DONE, "TLSv1.3, ")
+    results.tell("-v says what is negotiated", said or by_client(["echo", *place, *own(folder), "-v"], DONE, "the peer is server"))
+
+
+def knock(port: int, folder: str) -> None:
+    """Sends a listener what is no TLS, and TLS without a certificate and with one that it does not know."""
+    holds(lambda: listens(port), 20)
+    with contextlib.suppress(OSError), socket.create_connection(("127.0.0.1", port), 5) as plain:
+        plain.sendall(b"\1\0\0\0\0\4none")
+        plain.recv(1)
+    for certificate in ("", "stranger"):
+        context = ssl.SSLContext(ssl.PROTOCOL_TLS_CLIENT)
+        context.check_hostname, context.verify_mode = False, ssl.CERT_NONE
+        if certificate:
+            context.load_cert_chain(f"{folder}/{certificate}.crt", f"{folder}/{certificate}.key")
+        with contextlib.suppress(OSError), socket.create_connection(("127.0.0.1", port), 5) as plain, context.wrap_socket(plain) as wire:
+            wire.sendall(b"none")
+            wire.recv(1)
+
+
 def call(folder: str, name: str, configuration: str, status: int, ports: dict[int, int], results: Results) -> None:
     """Tries an echo through a tunnel of its own to the server's."""
     port = free_port()
@@ -129,6 +178,11 @@ def trials(program: list[str], folder: str, results: Results) -> None:
         live(entry, ports[WATCHER], results)
         for name, configuration, status in clients(station_side):
             call(folder, name, configuration, status, ports, results)
+    with contextlib.ExitStack() as stack:
+        server = stack.enter_context(Server(program, "--timeout", "10", f"WATCH1=127.0.0.1:{ports[TUNNEL]}"))
+        at_server = placed(server_side, folder, {**ports, SERVER: server.port})
+        stack.enter_context(tunnel(folder, "server", at_server, ports[SERVER_TLS]))
+        live_by_itself(folder, ports[SERVER_TLS], ports[WATCHER_TLS], results)
 
 
 def main() -> None:

@@ -12,8 +12,9 @@ from typing import Any, Iterator, NoReturn, Optional
 
 from pydicom.dataset import Dataset
 
+from ups import tls, tracing
 from ups.datasets import read, spelled
-from ups.faults import Broken, Over, Refused
+from ups.faults import Broken, Over, Refused, Unexpected, why
 from ups.messages import command_of, command_set, number_of_command
 from ups.pdus import (
     ABORT, APPLICATION_CONTEXT, ASSOCIATE_AC, ASSOCIATE_RJ, ASSOCIATE_RQ, EVENT_ROLE, IMPLEMENTATION, LONGEST, P_DATA_TF,
@@ -26,8 +27,9 @@ MOST_TAKEN = 2_097_152  # bytes of the longest command set or data set that this
 class Association:
     """An association, as requestor or acceptor (PS3.8). Its messages are command sets and data sets (PS3.7)."""
 
-    def __init__(self, connection: socket.socket, asked: argparse.Namespace) -> None:
-        self.connection, self.patience = connection, asked.timeout
+    def __init__(self, connection: socket.socket, asked: argparse.Namespace, place: str) -> None:
+        self.connection, self.patience, self.place = connection, asked.timeout, place
+        self.begun = asked.begun if asked.verbose else None
         self.implicit = asked.implicit
         self.syntax = IMPLICIT if asked.implicit else EXPLICIT
         self.received, self.at = bytearray(), 0
@@ -37,17 +39,24 @@ class Association:
         self.fragments: Iterator[tuple[int, int, bytes]] = iter(())
         self.numbers = itertools.count(1)
         self.wait_anew()
+        self.trace(tls.told(connection))
+
+    def trace(self, words: str) -> None:
+        """Tells of the association, with -v."""
+        if words and self.begun is not None:
+            tracing.trace(self.begun, self.place, words)
 
     def wait_anew(self) -> None:
         """Gives the peer as many seconds again for what comes next, in however many pieces."""
         self.deadline = time.monotonic() + self.patience
 
     def send_pdu(self, kind: int, body: bytes) -> None:
+        self.trace(f"-> {tracing.words_of(kind, body)}" if self.begun is not None else "")
         try:
             self.connection.settimeout(self.patience)
             self.connection.sendall(pdu(kind, body))
         except OSError as fault:
-            raise Broken(fault.strerror or str(fault)) from None
+            raise Broken(why(fault)) from None
         self.wait_anew()
 
     def receive(self) -> None:
@@ -58,7 +67,7 @@ class Association:
             self.connection.settimeout(left)
             more = self.connection.recv(1 << 16)
         except OSError as fault:
-            raise Broken(fault.strerror or str(fault)) from None
+            raise Broken(why(fault)) from None
         if not more:
             raise Broken("the connection was closed")
         del self.received[: self.at]
@@ -74,20 +83,22 @@ class Association:
     def pdu(self) -> tuple[int, bytes]:
         kind, _, length = unpacked(">BBI", self.take(6))
         if length > 1 << 20:
-            raise Refused(f"a PDU of {length:,} bytes")
+            raise Unexpected(f"a PDU of {length:,} bytes")
         body = self.take(length)
+        self.trace(f"<- {tracing.words_of(kind, body)}" if self.begun is not None else "")
         if kind in (ABORT, ASSOCIATE_RJ) and length != 4:
-            raise Refused(f"a PDU of type {kind:02X} with {length} bytes")
+            raise Unexpected(f"a PDU of type {kind:02X} with {length} bytes")
         if kind == ABORT:
             raise Over(f"the association was aborted (source {body[2]}, reason {body[3]})")
         return kind, body
 
-    def end(self, last: bytes) -> None:
+    def end(self, kind: int, body: bytes) -> None:
         """Sends a last PDU, and drops what comes for a second: bytes that nobody reads would take the PDU from the peer."""
         deadline = time.monotonic() + 1
+        self.trace(f"-> {tracing.words_of(kind, body)}" if self.begun is not None else "")
         with contextlib.suppress(OSError):
             self.connection.settimeout(1)
-            self.connection.sendall(last)
+            self.connection.sendall(pdu(kind, body))
             self.connection.shutdown(socket.SHUT_WR)
             while (left := deadline - time.monotonic()) > 0:
                 self.connection.settimeout(left)
@@ -96,7 +107,7 @@ class Association:
 
     def abort(self) -> None:
         """Ends the association by an A-ABORT of this side (PS3.8 section 9.3.8)."""
-        self.end(pdu(ABORT, bytes(4)))
+        self.end(ABORT, bytes(4))
 
     def propose(self, called: str, calling: str, classes: list[str], syntaxes: tuple[str, ...] = (), roles: bytes = b"") -> None:
         """Requests an association, with these transfer syntaxes (default: that of this side) and role selections."""
@@ -112,12 +123,12 @@ class Association:
         if kind == ASSOCIATE_RJ:
             raise Over(f"the association was rejected (result {answer[1]}, source {answer[2]}, reason {answer[3]})")
         if kind != ASSOCIATE_AC:
-            raise Refused(f"the association was answered with a PDU of type {kind:02X}")
+            raise Unexpected(f"the association was answered with a PDU of type {kind:02X}")
         self.longest = longest_of(answer)
         results = {content[0]: content for content in contexts_of(answer, 0x21)}
         for each, context in self.contexts.items():
             if context not in results or results[context][2]:
-                raise Refused(f"the presentation context of {each} was not accepted")
+                raise Unexpected(f"the presentation context of {each} was not accepted")
             self.implicit = dict(items(results[context][4:])).get(0x40, b"").rstrip(b"\0") == IMPLICIT.encode()
 
     def accept(self, asked: bytes) -> None:
@@ -135,7 +146,7 @@ class Association:
 
     def reject(self, reason: int, why: str) -> NoReturn:
         """Rejects the association for good, as its user (PS3.8 section 9.3.4), and raises Over."""
-        self.end(pdu(ASSOCIATE_RJ, bytes([0, 1, 1, reason])))
+        self.end(ASSOCIATE_RJ, bytes([0, 1, 1, reason]))
         raise Over(f"{why}: rejected (result 1, source 1, reason {reason})")
 
     def send(self, context: int, elements: dict[str, Any], given: Optional[Dataset] = None) -> None:
@@ -161,10 +172,10 @@ class Association:
             for context, control, piece in self.fragments:
                 contexts.add(context)
                 if control & 1 != kind_of_part or len(contexts) > 1:
-                    raise Refused("fragments of different messages in one another")
+                    raise Unexpected("fragments of different messages in one another")
                 whole += piece
                 if len(whole) > MOST_TAKEN:
-                    raise Refused(f"a message of more than {MOST_TAKEN:,} bytes")
+                    raise Unexpected(f"a message of more than {MOST_TAKEN:,} bytes")
                 if control & 2:
                     return context, bytes(whole)
             kind, body = self.pdu()
@@ -172,7 +183,7 @@ class Association:
                 self.send_pdu(RELEASE_RP, bytes(4))
                 return None
             if kind != P_DATA_TF:
-                raise Refused(f"a PDU of type {kind:02X} in the place of a message")
+                raise Unexpected(f"a PDU of type {kind:02X} in the place of a message")
             self.fragments = fragments(body)
 
     def message(self) -> Optional[tuple[int, Dataset, Optional[bytes]]]:
@@ -187,9 +198,9 @@ class Association:
             return context, command, None
         data = self.part(0)
         if data is None:
-            raise Refused("a release in the place of a data set")
+            raise Unexpected("a release in the place of a data set")
         if data[0] != context:
-            raise Refused("a data set on another presentation context than its command set")
+            raise Unexpected("a data set on another presentation context than its command set")
         return context, command, data[1]
 
     def answers(self, context: str, elements: dict[str, Any],
@@ -222,24 +233,32 @@ class Association:
 
 @contextlib.contextmanager
 def connected(host: str, port: int, asked: argparse.Namespace) -> Iterator[Association]:
-    """Yields a connection for an association, which ends by an A-ABORT if its peer sends what can't be read."""
+    """Yields a connection for an association, which ends by an A-ABORT if its peer sends what can't be read. What is the peer's fault
+    has its host and port in front."""
+    place = f"[{host}]:{port}" if ":" in host else f"{host}:{port}"
+    try:
+        with opened(host, port, asked) as connection:
+            association = Association(connection, asked, place)
+            try:
+                yield association
+            except Refused as fault:
+                if not isinstance(fault, Over):
+                    association.abort()
+                raise
+    except (Over, Unexpected) as fault:
+        raise type(fault)(f"{place}: {fault}") from None
+
+
+def opened(host: str, port: int, asked: argparse.Namespace) -> socket.socket:
+    """Opens a connection, by TLS if that is asked for."""
     try:
         connection = socket.create_connection((host, port), asked.timeout)
     except OSError as fault:
-        raise Refused(f"{host}:{port}: {fault.strerror or fault}") from None
+        raise Broken(why(fault)) from None
     except UnicodeError:
         raise Refused(f"{host!r} is no name of a host") from None
-    with connection:
-        connection.setsockopt(socket.IPPROTO_TCP, socket.TCP_NODELAY, 1)
-        association = Association(connection, asked)
-        try:
-            yield association
-        except Broken as fault:
-            raise Over(f"{host}:{port}: {fault}") from None
-        except Refused as fault:
-            if not isinstance(fault, Over):
-                association.abort()
-            raise
+    connection.setsockopt(socket.IPPROTO_TCP, socket.TCP_NODELAY, 1)
+    return tls.opened(connection, asked, host) if tls.is_asked(asked) else connection
 
 
 @contextlib.contextmanager

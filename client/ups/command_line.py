@@ -25,9 +25,9 @@ Where a text isn't ASCII, the data set says that it is UTF-8 (ISO_IR 192), unles
 
 The server is on 127.0.0.1, port 11112, and is called UPSD, unless --host, --port and --called say otherwise (of a board --port is
 the port of its page, and --server-port that of the server); this side is called CLIENT, or what --ae says. The environment gives
-other defaults: UPS_SERVER=HOST:PORT, UPS_CALLED and UPS_AE. The address of a board has a token, a new one at each start or
-UPS_TOKEN; without it the board answers 403. It needs Python 3.9 and pydicom (apt-get install -y python3-pydicom: then
-/usr/bin/python3 has it).
+other defaults: UPS_SERVER=HOST:PORT, UPS_CALLED and UPS_AE. With any of the options --tls.. connections are by TLS, also those that
+a listener takes. The address of a board has a token, a new one at each start or UPS_TOKEN; without it the board answers 403. It
+needs Python 3.9 and pydicom (apt-get install -y python3-pydicom: then /usr/bin/python3 has it).
 
 The exit status is 0 where the server answers with success or a warning, 1 where it answers with a failure, and 2 where there is
 no answer, or where what is asked can't be sent. That of `import` and `export` is 1 if a step was refused or could not be
@@ -170,6 +170,8 @@ def add_work(to: Commands) -> None:
     add_performer(add_keys(it, state=False))
     it.add_argument("--steps", type=count_word, default=1, metavar="N", help="does so many steps, 0 for all that there are (1)")
     it.add_argument("--every", type=seconds_word, metavar="S", help="asks again after so many seconds if there is none (ends)")
+    it.add_argument("--retries", type=count_word, default=0, metavar="N",
+                    help="runs the command up to N times again, after 1, 2, 4 .. 60 s, before it cancels the step (0)")
     it.add_argument("--due", action="store_true", help="leaves steps whose scheduled start is yet to come")
     add_listening(it, None,
                   "the port that the server has for this performer as a watcher: then a request to cancel ends the command")

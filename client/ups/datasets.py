@@ -11,7 +11,7 @@ from pydicom.filebase import DicomBytesIO
 from pydicom.filereader import read_dataset
 from pydicom.filewriter import write_dataset
 
-from ups.faults import Refused
+from ups.faults import Refused, Unexpected
 from ups.terms import UTF_8
 
 TEXTS = {"LO", "LT", "PN", "SH", "ST", "UC", "UT"}  # these may have other characters than ASCII (PS3.5 section 6.1.2.2)
@@ -61,4 +61,4 @@ def read(found: bytes, implicit: bool) -> Dataset:
     try:
         return read_dataset(DicomBytesIO(found), implicit, True, parent_encoding="utf8")
     except Exception as fault:  # pydicom raises exceptions of many classes, and further ones where a value is looked at
-        raise Refused(f"a data set that can't be read: {fault}") from None
+        raise Unexpected(f"a data set that can't be read: {fault}") from None

@@ -8,7 +8,7 @@ from typing import Optional
 from pydicom.dataset import Dataset
 
 from ups.datasets import read, spelled
-from ups.faults import Refused
+from ups.faults import Refused, Unexpected
 from ups.terms import CHARACTER_SET, CODE, MEANING, UTF_8
 
 LONG = {b"OB", b"OD", b"OF", b"OL", b"OV", b"OW", b"SQ", b"SV", b"UC", b"UN", b"UR", b"UT", b"UV"}  # PS3.5 section 7.1.2
@@ -30,7 +30,7 @@ def elements_of(found: bytes) -> dict[int, tuple[bytes, bytes]]:
             elements[group << 16 | number] = vr, found[at : at + length]
             at += length
     except struct.error:
-        raise Refused("a data set whose lengths do not fit its bytes") from None
+        raise Unexpected("a data set whose lengths do not fit its bytes") from None
     return elements
 
 
@@ -76,7 +76,7 @@ def plain(found: bytes, implicit: bool) -> bytes:
     except Refused:
         raise
     except Exception as fault:  # pydicom raises exceptions of many classes
-        raise Refused(f"a data set that can't be read: {fault}") from None
+        raise Unexpected(f"a data set that can't be read: {fault}") from None
 
 
 def with_lengths(given: Dataset) -> Dataset:

@@ -3,6 +3,7 @@
 from __future__ import annotations
 
 import contextlib
+import ssl
 import sys
 
 from ups.moments import moment_now
@@ -16,6 +17,10 @@ class Unwritable(Refused):
     """A data set that JSON has no form for."""
 
 
+class Unexpected(Refused):
+    """Something of a peer that can't be read, or that has no place there; an A-ABORT follows it."""
+
+
 class Over(Refused):
     """The end of an association by its peer, or by a rejection, behind which no A-ABORT is sent."""
 
@@ -25,6 +30,15 @@ class Broken(Over):
 
 
 LONGEST_LINE = 1_000  # characters of a line about a fault, which may have words of a peer
+
+
+def why(fault: OSError) -> str:
+    """Returns why a call of the system, or a step of TLS, failed, in words without numbers."""
+    if isinstance(fault, ssl.SSLCertVerificationError):
+        return f"the certificate of the peer is not taken: {fault.verify_message}"
+    if isinstance(fault, ssl.SSLError) and fault.reason:
+        return fault.reason.replace("_", " ").lower()
+    return fault.strerror or str(fault) or type(fault).__name__
 
 
 def printable(text: str) -> str:

@@ -71,10 +71,13 @@ def in_characters_of(step: Dataset, keyword: str, one: Dataset) -> Dataset:
 
 
 def end_step(association: Association, uid: str, transaction: str, needed: Callable[[Dataset], Dataset], state: str) -> int:
-    """Sets what a final state needs and the step lacks, and changes the step to that state."""
+    """Sets what a final state needs and the step lacks, and changes the step to that state. One that has it already is only asked to
+    have it: the answer to an earlier request may have been lost."""
     status, step = get_step(association, uid)
     if step is None or not is_done(status):
         return status
+    if step.get("ProcedureStepState") == state:
+        return change(association, uid, transaction, state)
     status = update(association, uid, transaction, needed(step))
     return change(association, uid, transaction, state) if is_done(status) else status
 

@@ -11,7 +11,7 @@ from pydicom.datadict import tag_for_keyword
 from pydicom.dataset import Dataset
 
 from ups.datasets import read
-from ups.faults import Refused
+from ups.faults import Unexpected
 from ups.pdus import unpacked
 
 
@@ -26,12 +26,12 @@ def command_set(elements: dict[str, Any]) -> bytes:
 
 
 def whole_command(found: bytes) -> Dataset:
-    """Reads a command set. Raises Refused if the lengths of its elements do not fit it, which pydicom takes."""
+    """Reads a command set. Raises Unexpected if the lengths of its elements do not fit it, which pydicom takes."""
     at = 0
     while at < len(found):
         at += 8 + unpacked("<I", found[at + 4 : at + 8])[0]
     if at > len(found):
-        raise Refused("a command set that is cut off")
+        raise Unexpected("a command set that is cut off")
     return read(found, True)
 
 
@@ -44,22 +44,22 @@ def command_of(found: bytes) -> Dataset:
 
 
 def number_of_command(command: Dataset, keyword: str) -> int:
-    """Returns a number of a command set. Raises Refused if the command set has none there."""
+    """Returns a number of a command set. Raises Unexpected if the command set has none there."""
     try:
         number = command.get(keyword)
     except Exception:  # pydicom raises exceptions of many classes
-        raise Refused(f"a command set whose {keyword} can't be read") from None
+        raise Unexpected(f"a command set whose {keyword} can't be read") from None
     if not isinstance(number, int):
-        raise Refused(f"a command set without {keyword}")
+        raise Unexpected(f"a command set without {keyword}")
     return number
 
 
 def uid_of_command(command: Dataset, keyword: str) -> str:
-    """Returns a UID of a command set. Raises Refused if the command set has none there."""
+    """Returns a UID of a command set. Raises Unexpected if the command set has none there."""
     try:
         uid = str(command.get(keyword) or "")
     except Exception:  # pydicom raises exceptions of many classes
-        raise Refused(f"a command set whose {keyword} can't be read") from None
+        raise Unexpected(f"a command set whose {keyword} can't be read") from None
     if not re.fullmatch(r"[0-9.]{1,64}", uid, re.ASCII):
-        raise Refused(f"a command set whose {keyword} is no UID: {uid[:64]!r}")
+        raise Unexpected(f"a command set whose {keyword} is no UID: {uid[:64]!r}")
     return uid

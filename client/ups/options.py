@@ -4,25 +4,38 @@ from __future__ import annotations
 
 import argparse
 import os
-from typing import Any, Optional
+from typing import Any, Callable, Optional
 
 from ups.faults import Refused
-from ups.words import addresses_word, duration_word, own_port_word, port_word, server_word, title_word
+from ups.words import addresses_word, duration_word, flag_word, own_port_word, port_word, server_word, title_word
+
+
+# what the environment says in the place of options: the name of each, and how its word is read
+VARIABLES: dict[str, tuple[str, Callable[[str], Any]]] = {
+    "UPS_CALLED": ("called", title_word), "UPS_AE": ("ae", title_word), "UPS_TLS": ("tls", flag_word), "UPS_TLS_CA": ("tls_ca", str),
+    "UPS_TLS_CERTIFICATE": ("tls_certificate", str), "UPS_TLS_KEY": ("tls_key", str), "UPS_TLS_NAME": ("tls_name", str)}
 
 
 def of_environment() -> dict[str, Any]:
-    """Returns the defaults that the environment gives: UPS_SERVER, UPS_CALLED and UPS_AE."""
+    """Returns the defaults that the environment gives: UPS_SERVER, and those of VARIABLES."""
     found: dict[str, Any] = {}
-    for name, read_word in (("UPS_SERVER", server_word), ("UPS_CALLED", title_word), ("UPS_AE", title_word)):
+    for name, (option, read_word) in {"UPS_SERVER": ("", server_word), **VARIABLES}.items():
         try:
             value = read_word(os.environ[name]) if os.environ.get(name) else None
         except argparse.ArgumentTypeError as fault:
             raise Refused(f"{name}: {fault}") from None
         if isinstance(value, tuple):
             found["host"], found["port"] = value
-        elif value:
-            found[name.removeprefix("UPS_").lower()] = value
+        elif value is not None:
+            found[option] = value
     return found
+
+
+def environment_of(asked: argparse.Namespace) -> dict[str, str]:
+    """Returns the environment that says to another client what these options say."""
+    found = {name: getattr(asked, option) for name, (option, _) in VARIABLES.items()}
+    words = {name: "1" if value is True else value for name, value in found.items() if value}
+    return {"UPS_SERVER": f"{asked.host}:{asked.port}", **words}
 
 
 def common(of_a_board: bool = False) -> argparse.ArgumentParser:
@@ -35,7 +48,21 @@ def common(of_a_board: bool = False) -> argparse.ArgumentParser:
     found.add_argument("--ae", type=title_word, default="CLIENT", help="the title of this side; UPS_AE (CLIENT)")
     found.add_argument("--timeout", type=duration_word, default=30, metavar="S", help="seconds for an answer (30)")
     found.add_argument("--implicit", action="store_true", help="Implicit VR Little Endian in place of Explicit VR Little Endian")
+    found.add_argument("-v", "--verbose", action="store_true",
+                       help="says on standard error what is negotiated, and names each PDU; no value of a data set")
+    add_tls(found)
     return found
+
+
+def add_tls(of: argparse.ArgumentParser) -> None:
+    """Adds the options of TLS, of which each asks for it."""
+    of.add_argument("--tls", action="store_true", help="TLS 1.2 or later, also of what listens; UPS_TLS=1")
+    of.add_argument("--tls-ca", metavar="FILE",
+                    help="by which the peer's certificate is checked, in PEM; UPS_TLS_CA (those of the system; of what listens: not at all)")
+    of.add_argument("--tls-certificate", metavar="FILE", help="the certificate of this side, in PEM; UPS_TLS_CERTIFICATE")
+    of.add_argument("--tls-key", metavar="FILE", help="its key, in PEM; UPS_TLS_KEY (in the file of the certificate)")
+    of.add_argument("--tls-name", metavar="NAME",
+                    help="the name in the server's certificate, * for any; UPS_TLS_NAME (what --host says)")
 
 
 def add_attributes(of: argparse.ArgumentParser, what: str) -> None:

@@ -5,7 +5,7 @@ from __future__ import annotations
 import struct
 from typing import Any, Iterator
 
-from ups.faults import Refused
+from ups.faults import Unexpected
 from ups.terms import EVENT
 
 APPLICATION_CONTEXT = "1.2.840.10008.3.1.1.1"
@@ -28,11 +28,11 @@ EVENT_ROLE = item(0x54, struct.pack(">H", len(EVENT)) + EVENT.encode() + bytes([
 
 
 def unpacked(form: str, text: bytes) -> tuple[Any, ...]:
-    """Unpacks numbers. Raises Refused if there are too few bytes for them."""
+    """Unpacks numbers. Raises Unexpected if there are too few bytes for them."""
     try:
         return struct.unpack(form, text)
     except struct.error:
-        raise Refused("lengths that do not fit the bytes") from None
+        raise Unexpected("lengths that do not fit the bytes") from None
 
 
 def longest_of(associate: bytes) -> int:
@@ -40,7 +40,7 @@ def longest_of(associate: bytes) -> int:
     user = dict(items(associate[68:])).get(0x50, b"")
     most = unpacked(">I", dict(items(user)).get(0x51, bytes(4)))[0] or LONGEST  # 0 stands for no limit
     if most < 8:
-        raise Refused(f"the peer takes PDUs of {most} bytes at most")
+        raise Unexpected(f"the peer takes PDUs of {most} bytes at most")
     return min(most, LONGEST)
 
 
@@ -48,7 +48,7 @@ def contexts_of(associate: bytes, kind: int) -> list[bytes]:
     """Returns the presentation context items of an associate PDU, or those with the results of its answer."""
     found = [content for number, content in items(associate[68:]) if number == kind]
     if len(found) > MOST_CONTEXTS or any(len(content) < 4 for content in found):
-        raise Refused("presentation contexts that can't be read")
+        raise Unexpected("presentation contexts that can't be read")
     return found
 
 
@@ -59,7 +59,7 @@ def items(text: bytes) -> Iterator[tuple[int, bytes]]:
         kind, _, length = unpacked(">BBH", text[at : at + 4])
         at += 4 + length
         if at > len(text):
-            raise Refused("an item that is longer than its PDU")
+            raise Unexpected("an item that is longer than its PDU")
         yield kind, text[at - length : at]
 
 
@@ -70,5 +70,5 @@ def fragments(body: bytes) -> Iterator[tuple[int, int, bytes]]:
         length, context, control = unpacked(">IBB", body[at : at + 6])
         at += 4 + length
         if length < 2 or at > len(body):
-            raise Refused(f"a PDV of {length:,} bytes, which does not fit its PDU")
+            raise Unexpected(f"a PDV of {length:,} bytes, which does not fit its PDU")
         yield context, control, body[at + 2 - length : at]

@@ -21,16 +21,18 @@ from ups.association import Association, associated
 from ups.datasets import made
 from ups.dicom_json import json_line
 from ups.elements import plain, value_at
-from ups.faults import Refused, Unwritable, complain, printable
+from ups.faults import Over, Refused, Unexpected, Unwritable, complain, printable
 from ups.finishing import begun, canceled, completed, end_step, in_characters_of
 from ups.moments import moment_of
 from ups.operations import act, change, get_step, matched, update
+from ups.options import environment_of
 from ups.reports import listener_of, take_in_threads
 from ups.terms import (
     GLOBAL, GONE, PRIORITIES, PRIORITY, PULL, READINESS, SOP_INSTANCE, START, STATES, UTF_8, WATCH, is_done, new_uid, told)
 
 TAKEN = (0xC300, 0xC302, GONE)  # another performer was quicker, or the step was canceled
 NO_STEP = 3  # the exit status of `work` if there is nothing to do
+LONGEST_PAUSE = 60  # seconds before a command is run again
 MOST_REASON = 1_024  # characters of the reason of a request to cancel that the step gets
 
 
@@ -62,21 +64,42 @@ def waiting_steps(association: Association, asked: argparse.Namespace) -> list[s
     return [uid for _priority, start, uid in places if start <= latest]
 
 
+class Unanswered(Refused):
+    """A claim whose answer did not come, so that this performer may hold the step or not."""
+
+    def __init__(self, held: Claimed, told_of: str) -> None:
+        super().__init__(told_of)
+        self.held = held
+
+
 def claim_next(asked: argparse.Namespace) -> Optional[Claimed]:
     """Claims the first step that no other performer takes before, and says in it that it has begun; None if there is none."""
     with associated(asked, [PULL]) as association:
         for uid in waiting_steps(association, asked):
-            transaction = new_uid()
+            held = Claimed(uid, new_uid(), Dataset())
             try:
-                status = change(association, uid, transaction, STATES[1])
+                status = change(association, uid, held.transaction, STATES[1])
                 if status in TAKEN:
                     continue
                 if not is_done(status):
                     raise Refused(told(status))
-                return begin_step(association, Claimed(uid, transaction, Dataset()), asked.as_station or asked.ae)
+                return begin_step(association, held, asked.as_station or asked.ae)
             except (OSError, Refused) as fault:
-                raise Refused(f"{uid}, to be claimed with {transaction}: {fault}") from None
+                raise Unanswered(held, f"{association.place}: {uid}, to be claimed with {held.transaction}: {fault}") from None
     return None
+
+
+def claimed_before(asked: argparse.Namespace, held: Claimed) -> Optional[Claimed]:
+    """Returns a step whose claim was not answered, with its attributes, if this performer holds it; None if it does not, as an N-SET
+    with its Transaction UID shows."""
+    with associated(asked, [PULL]) as association:
+        try:
+            return begin_step(association, held, asked.as_station or asked.ae)
+        except (Over, Unexpected):
+            raise
+        except Refused as fault:
+            complain(f"{held.uid} is not held with {held.transaction}: {fault}")
+            return None
 
 
 def begin_step(association: Association, held: Claimed, station: str) -> Claimed:
@@ -101,6 +124,8 @@ class Performer:
         self.stopped = threading.Event()
         self.process: Optional[subprocess.Popen[bytes]] = None
         self.held = self.request = ""  # the step that is being done, and why others ask that it be canceled
+        self.interrupted = threading.Event()  # it is to be stopped, or others ask that the step be canceled
+        self.doubtful: Optional[Claimed] = None  # a step whose claim was not answered
 
     def subscribe(self, kind: int, instance: str) -> int:
         """Subscribes this performer to a step (3), or ends its subscription to a step or to all (4)."""
@@ -134,19 +159,32 @@ class Performer:
         if command.EventTypeID == 2 and str(command.AffectedSOPInstanceUID) == self.held:
             reason = value_at(plain(data or b"", self.asked.implicit), 0x0074_1238)[:MOST_REASON]
             self.request = f"asked for{reason and f', {reason}'}"
+            self.interrupted.set()
             if (process := self.process) is not None:
                 process.terminate()
 
     def stop(self, *_: Any) -> None:
         """Ends the command, so that its step is canceled, and takes no further step."""
         self.stopped.set()
+        self.interrupted.set()
         if self.process is not None:
             self.process.terminate()
 
+    def tried(self, held: Claimed, line: str) -> str:
+        """Runs the command for a step, and again while it fails, as often as is asked for; returns why the step is to be canceled."""
+        for retry in range(self.asked.retries + 1):
+            why = self.ended(held, line)
+            pause = min(LONGEST_PAUSE, 2 ** min(retry, 10))
+            if not why or self.interrupted.is_set() or retry == self.asked.retries:
+                break
+            complain(f"{held.uid}: {why}, and is run again in {pause} s")
+            if self.interrupted.wait(pause):
+                break
+        return why
+
     def ended(self, held: Claimed, line: str) -> str:
         """Runs the command for a step, and returns why the step is to be canceled; empty if it is done."""
-        variables = {"UPS_STEP": held.uid, "UPS_TRANSACTION": held.transaction, "UPS_AE": self.asked.ae,
-                     "UPS_SERVER": f"{self.asked.host}:{self.asked.port}", "UPS_CALLED": self.asked.called}
+        variables = {"UPS_STEP": held.uid, "UPS_TRANSACTION": held.transaction, **environment_of(self.asked)}
         with tempfile.NamedTemporaryFile("w+", prefix="ups.", suffix=".json", encoding="utf-8") as file:
             file.write(line + "\n")
             file.flush()
@@ -193,8 +231,10 @@ class Performer:
         if not (self.asked.command or why):
             return 0
         self.held, self.request = held.uid, ""
+        if not self.stopped.is_set():
+            self.interrupted.clear()
         self.follow(3, held.uid)
-        why = why or self.ended(held, line)
+        why = why or self.tried(held, line)
         status = self.finish(held, why)
         self.follow(4, held.uid)
         print(f"{held.uid}: {STATES[3 if why else 2]}{why and f', {printable(why)}'}: {told(status)}", file=sys.stderr, flush=True)
@@ -204,13 +244,23 @@ class Performer:
         """Does the next step, and returns the exit status, or None if there is none. A performer that asks again and again goes on
         if the server does not answer."""
         try:
-            held = claim_next(self.asked)
+            held = self.claim()
             return None if held is None else self.do(held)
         except (OSError, Refused) as fault:
             if self.asked.every is None:
                 raise
             complain(str(fault))
             return None
+
+    def claim(self) -> Optional[Claimed]:
+        """Claims the next step. One whose claim was not answered, because the server went away, comes first."""
+        try:
+            held = claimed_before(self.asked, self.doubtful) if self.doubtful else None
+            self.doubtful = None
+            return held or claim_next(self.asked)
+        except Unanswered as fault:
+            self.doubtful = fault.held
+            raise
 
     def run(self) -> int:
         """Does as many steps as are asked for, and returns the worst exit status, or NO_STEP."""

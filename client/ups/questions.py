@@ -7,18 +7,25 @@ import itertools
 import sys
 from typing import Optional
 
+from pydicom.datadict import keyword_for_tag
 from pydicom.dataelem import DataElement
+from pydicom.dataset import Dataset
 
 from ups.association import Association, associated
 from ups.datasets import read
 from ups.dicom_json import as_json, json_line
 from ups.faults import Unwritable
 from ups.operations import get_step, matched
-from ups.terms import CHARACTER_SET, PULL, VERIFICATION, is_done, told
+from ups.tables import is_for_people, table
+from ups.terms import (
+    CHARACTER_SET, LABEL, PATIENT, PATIENT_ID, PRIORITY, PULL, SOP_INSTANCE, START, STATE, VERIFICATION, is_done, told)
 
 # what `find` shows besides the keys that it is given
 COLUMNS = ("PatientName", "PatientID", "ScheduledProcedureStepStartDateTime", "ProcedureStepState",
            "ScheduledProcedureStepPriority", "ProcedureStepLabel")
+# how their columns are called on a terminal; others have their keyword
+HEADINGS = {SOP_INSTANCE: "STEP", PATIENT: "PATIENT", PATIENT_ID: "PATIENT ID", START: "START", STATE: "STATE", PRIORITY: "PRIORITY",
+            LABEL: "LABEL"}
 
 
 def echo(association: Association, _: argparse.Namespace) -> int:
@@ -38,12 +45,21 @@ def find(association: Association, asked: argparse.Namespace) -> int:
     first = [read(data, association.implicit) for data in itertools.islice(steps.values(), asked.limit)]
     if asked.json:
         print(as_json(first))
+    elif first and is_for_people():
+        print(as_table(first))
     else:
         for each in first:
             print("  ".join(shown(element) for element in each if element.tag != CHARACTER_SET))
     of = f"{len(first)} of " if len(first) < len(steps) else ""
     print(f"{of}{len(steps)} found", file=asked.aside)
     return status
+
+
+def as_table(steps: list[Dataset]) -> str:
+    """Returns the attributes of steps as a table: a column for each that one of them has, by its tag."""
+    tags = sorted({element.tag for step in steps for element in step if element.tag != CHARACTER_SET})
+    heading = [HEADINGS.get(int(tag)) or str(keyword_for_tag(tag) or tag) for tag in tags]
+    return table(heading, ([shown(step[tag]) if tag in step else "-" for tag in tags] for step in steps))
 
 
 def line_of(association: Association, uid: str) -> tuple[Optional[str], str]:

@@ -13,8 +13,9 @@ from typing import Any, Callable, Iterator, Optional
 
 from pydicom.dataset import Dataset
 
+from ups import tls
 from ups.association import Association
-from ups.faults import Over, Refused, complain
+from ups.faults import Over, Refused, Unexpected, complain, why
 from ups.messages import number_of_command, uid_of_command
 from ups.pdus import ASSOCIATE_RQ
 from ups.terms import PUSH
@@ -24,12 +25,13 @@ AT_ONCE = 8  # associations that `board` and `work` take at once; a server has o
 
 def listener_of(asked: argparse.Namespace) -> socket.socket:
     """Listens where the options say."""
+    tls.check_for_listener(asked)
     warnings.simplefilter("ignore")  # pydicom warns of values that anybody may send, and each warning would be kept
     try:
         family = socket.AF_INET6 if ":" in asked.address else socket.AF_INET
         return socket.create_server((asked.address, asked.listen), family=family)
     except OSError as fault:
-        raise Refused(f"{asked.address}:{asked.listen}: {fault.strerror or fault}") from None
+        raise Refused(f"{asked.address}:{asked.listen}: {why(fault)}") from None
     except UnicodeError:
         raise Refused(f"{asked.address!r} is no address") from None
 
@@ -59,19 +61,28 @@ Tell = Callable[[Dataset, Optional[bytes]], None]
 def take_association(asked: argparse.Namespace, connection: socket.socket, where: str, tell: Tell, caller: str = "") -> bool:
     """Takes the reports of one association, and returns whether its peer released it. Whatever the peer sends ends this association
     alone, with a line that says why."""
-    association = Association(connection, asked)
-    with connection:
-        try:
-            take_reports(association, asked, tell, caller)
-            return True
-        except Over as fault:
-            complain(f"{where}: {fault}")
-        except Refused as fault:
-            complain(f"{where}: aborted: {fault}")
-            association.abort()
-        except Exception as fault:  # pydicom raises exceptions of many classes, some where a value is looked at
-            complain(f"{where}: aborted: {type(fault).__name__}: {fault}")
-            association.abort()
+    try:
+        with tls.taken(connection, asked) if tls.is_asked(asked) else connection as taken:
+            return take_over(Association(taken, asked, where), asked, tell, caller)
+    except Refused as fault:  # of TLS
+        complain(f"{where}: {fault}")
+    return False
+
+
+def take_over(association: Association, asked: argparse.Namespace, tell: Tell, caller: str) -> bool:
+    """Takes the reports of an association over its connection."""
+    where = association.place
+    try:
+        take_reports(association, asked, tell, caller)
+        return True
+    except Over as fault:
+        complain(f"{where}: {fault}")
+    except Refused as fault:
+        complain(f"{where}: aborted: {fault}")
+        association.abort()
+    except Exception as fault:  # pydicom raises exceptions of many classes, some where a value is looked at
+        complain(f"{where}: aborted: {type(fault).__name__}: {fault}")
+        association.abort()
     return False
 
 
@@ -100,7 +111,7 @@ def take_reports(association: Association, asked: argparse.Namespace, tell: Tell
     title than that of this side is rejected, and so is who has another one than `caller`, unless that is empty."""
     kind, request = association.pdu()
     if kind != ASSOCIATE_RQ or len(request) < 68:
-        raise Refused(f"a PDU of type {kind:02X} and {len(request):,} bytes in the place of an association request")
+        raise Unexpected(f"a PDU of type {kind:02X} and {len(request):,} bytes in the place of an association request")
     called, calling = (request[at : at + 16].decode("latin-1").strip(" ") for at in (4, 20))
     if called != asked.ae.strip(" "):
         association.reject(7, f"it calls {called!r}, and this is {asked.ae}")
@@ -116,11 +127,11 @@ def take_reports(association: Association, asked: argparse.Namespace, tell: Tell
 
 
 def answer_to(association: Association, context: int, command: Dataset, status: int) -> dict[str, Any]:
-    """Returns the response to an N-EVENT-REPORT (PS3.7 section 10.3.1.1). Raises Refused if the request isn't one."""
+    """Returns the response to an N-EVENT-REPORT (PS3.7 section 10.3.1.1). Raises Unexpected if the request isn't one."""
     if context not in association.accepted:
-        raise Refused(f"a message on presentation context {context}, which was not accepted")
+        raise Unexpected(f"a message on presentation context {context}, which was not accepted")
     if (kind := number_of_command(command, "CommandField")) != 0x0100:
-        raise Refused(f"a message with Command Field {kind:04X}H in the place of a report")
+        raise Unexpected(f"a message with Command Field {kind:04X}H in the place of a report")
     return {"AffectedSOPClassUID": PUSH, "CommandField": 0x8100, "Status": status,
             "MessageIDBeingRespondedTo": number_of_command(command, "MessageID"),
             "EventTypeID": number_of_command(command, "EventTypeID"),

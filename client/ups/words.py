@@ -82,6 +82,12 @@ def peer_word(word: str) -> tuple[str, str, int]:
     return title_word(called_title), host, int(port)
 
 
+def flag_word(word: str) -> bool:
+    if word not in ("0", "1"):
+        raise argparse.ArgumentTypeError(f"{word!r} is neither 1 nor 0")
+    return word == "1"
+
+
 def server_word(word: str) -> tuple[str, int]:
     """Reads a server as UPS_SERVER names it: a host and a port, after the last colon."""
     host, _, port = word.rpartition(":")
