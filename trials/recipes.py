@@ -1,10 +1,10 @@
 #!/usr/bin/env python3
-"""Tries the recipes of examples with Debian's Orthanc and DCMTK: a study that is stable becomes a step, and a performer fetches it.
+"""Tries the recipes of examples with Debian's Orthanc, DCMTK and python3-hl7: studies, orders and worklists become steps.
 
     trials/recipes.py [PROGRAM [WORD..]]      (crates/upsd/out/upsd, which `rt run` builds)
 
-It installs what is missing (`apt-get install -y orthanc orthanc-python dcmtk python3-pydicom`, which needs root), starts a server
-and Orthanc on free ports of this machine, and ends by itself. It prints a line for each trial, and then `N passed, M failed`; the
+It installs what is missing (`apt-get install -y orthanc orthanc-python dcmtk python3-hl7 python3-pydicom`, which needs root), starts a
+server and Orthanc on free ports of this machine, and ends by itself. It prints a line for each trial, and then `N passed, M failed`; the
 exit status is 1 if any failed.
 
     a study      is sent to Orthanc, with two series and a name that isn't ASCII; once it is stable, examples/orthanc_steps.py has
@@ -12,16 +12,24 @@ exit status is 1 if any failed.
     a performer  (`ups work`, examples/fetch_study.py) claims the step and fetches what it names; the step is COMPLETED, with what
                  its final state needs
     one more     instance makes a second step; the performer is told of another place, and cancels it
-    no manager   while the server is away a study is stable: Orthanc's log names it
+    no manager   while the server is away a study is stable: Orthanc's log names it, and once the server is there it is one step
+    orders       HL7 messages of both types come to examples/hl7_steps.py: new orders are steps, with what the table says, also a second
+                 time and in another character set; a change sets, a cancellation cancels; what is refused is told to the sender, who
+                 hears AE while the server is away
+    a worklist   of wlmscpfs (DCMTK) is asked for by examples/mwl_steps.py, twice: each entry of today is one step
 """
 
 from __future__ import annotations
 
 import argparse
 import contextlib
+import datetime
+import importlib.util
 import json
 import os
+import re
 import signal
+import socket
 import subprocess
 import sys
 import tempfile
@@ -75,7 +83,8 @@ class Orthanc:
         path = os.path.join(folder, "orthanc.json")
         with open(path, "w", encoding="utf-8") as file:
             json.dump(words, file)
-        variables = {"UPS_SERVER": f"127.0.0.1:{server}", "UPS_COMMAND": " ".join(CLIENT), "UPS_WORKLIST": "READS"}
+        variables = {"UPS_SERVER": f"127.0.0.1:{server}", "UPS_COMMAND": " ".join(CLIENT), "UPS_WORKLIST": "READS", "UPS_EVERY": "3",
+                     "UPS_STATE": os.path.join(folder, "changes")}
         with open(self.log, "w", encoding="utf-8") as log:
             self.process = subprocess.Popen([ORTHANC, path], stdout=log, stderr=log, env={**os.environ, **variables})
 
@@ -186,12 +195,174 @@ def try_one_more(results: Results, port: int, orthanc: Orthanc) -> None:
                  None if ran.returncode == 1 and " ended with 1" in (reason or "") else f"{ran.returncode}, {reason}: {ran.stderr}")
 
 
+def try_away(results: Results, program: list[str], server: Server, orthanc: Orthanc) -> None:
+    """Tries a study that is stable while the server is away, and comes when it is back."""
+    server.stop()
+    send(orthanc, OTHER, (1, 1))
+    found = holds(lambda: orthanc.has_logged(f"no step for the study {OTHER} yet: "), 60)
+    results.tell("a study that gets no step is in Orthanc's log", None if found else "it isn't")
+    with Server(program, "--keep", "3600", port=server.port):
+        found = holds(lambda: len(steps(server.port)) == 1, 60)
+        results.tell("once the server is back it is a step", None if found else str(steps(server.port))[:300])
+        with open(os.path.join(orthanc.folder, "changes"), "w", encoding="ascii") as file:
+            file.write("0\n")
+        holds(lambda: len(steps(server.port)) == 2, 60)
+        named_so = sorted(first(it, "0040A370", "0020000D") for it in steps(server.port))
+        results.tell("a walk from the first change makes each study one step", None if named_so == [STUDY, OTHER] else str(named_so))
+
+
+# HL7 orders
+
+SEGMENTS = {
+    "MSH": "MSH|^~\\&|HIS|HOSP|UPS|HOSP|20261126101500||{kind}|{number}|P|2.5.1||||||{characters}",
+    "PID": "PID|||P4711^^^HOSP||MÜLLER^JÜRGEN^KARL^JR^DR||19610504|M", "PV1": "PV1||I|||||||||||||||||V77",
+    "ORC": "ORC|{control}|{order}^HIS|F{order}", "TQ1": "TQ1|||||||20261126101500+0100||S",
+    "OBR": "OBR||{order}^HIS|F{order}|CTH^{label}^LOCAL||||||||||||||A{order}||||||CT", "IPC": "IPC|A{order}|R{order}|1.2.3.4.{order}|S1||||^CT|CT1"}
+
+
+def message(kind: str, control: str, *orders: int, label: str = "CT head & neck", characters: str = "UNICODE UTF-8") -> bytes:
+    """Returns an HL7 message with orders."""
+    escaped = label.replace("&", "\\T\\")
+    words = {"kind": kind, "number": "1", "characters": characters, "control": control, "label": escaped}
+    lines = [SEGMENTS[it] for it in ("MSH", "PID", "PV1")]
+    text = "\r".join(it.format(**words) for it in lines)
+    for order in orders:
+        text += "\r" + "\r".join(SEGMENTS[it].format(**words, order=order) for it in ("ORC", "TQ1", "OBR", "IPC"))
+    return (text + "\r").encode("utf-8" if "UTF" in characters else "latin-1")
+
+
+class Orders:
+    """examples/hl7_steps.py for a server, and a sender of messages."""
+
+    def __init__(self, server: int) -> None:
+        self.port = free_port()
+        variables = {"UPS_SERVER": f"127.0.0.1:{server}", "UPS_COMMAND": " ".join(CLIENT), "UPS_AE": "ORDERS"}
+        words = [sys.executable, os.path.join(HERE, "examples/hl7_steps.py"), "--port", str(self.port)]
+        self.process = subprocess.Popen(words, stdout=subprocess.DEVNULL, env={**os.environ, **variables})
+        holds(lambda: listens(self.port), 20)
+
+    def send(self, *messages: bytes) -> list[str]:
+        """Sends messages over one connection, each after the answer to the last one; returns the codes, with what is told."""
+        codes = []
+        with socket.create_connection(("127.0.0.1", self.port), 120) as wire:
+            for each in messages:
+                wire.sendall(b"\x0b" + each + b"\x1c\r")
+                found = b""
+                while not found.endswith(b"\x1c\r"):
+                    found += wire.recv(1 << 16) or b"\x1c\r"
+                told = re.search(rb"\rMSA\|(\w\w)\|1(?:\|(.*?))?\r", found)
+                codes.append("" if told is None else (told[1] + b" " + (told[2] or b"")).decode("utf8", "replace").strip())
+        return codes
+
+    def end(self) -> None:
+        self.process.terminate()
+        self.process.wait(20)
+
+
+WANTED = {  # of a step of an order: a path of tags, and its value
+    ("00100010",): {"Alphabetic": "MÜLLER^JÜRGEN^KARL^DR^JR"}, ("00100020",): "P4711", ("00100021",): "HOSP", ("00100030",): "19610504",
+    ("00100040",): "M", ("00380010",): "V77", ("00404005",): "20261126101500+0100", ("00741200",): "HIGH", ("00741202",): "CT",
+    ("00741204",): "CT head & neck", ("00404018", "00080100"): "CTH", ("00404018", "00080102"): "LOCAL", ("00404025", "00080100"): "CT1",
+    ("00404025", "00080102"): "99LOCAL", ("0040A370", "00080050"): "A1", ("0040A370", "0020000D"): "1.2.3.4.1",
+    ("0040A370", "00402016"): "1", ("0040A370", "00402017"): "F1", ("0040A370", "00401001"): "R1"}
+
+
+def try_orders(results: Results, program: list[str]) -> None:
+    with Server(program, "--keep", "3600") as server:
+        orders = Orders(server.port)
+        try:
+            codes = orders.send(message("ORM^O01", "NW", 1, 2), message("OMI^O23^OMI_O23", "NW", 3),
+                                message("ORM^O01", "NW", 4, characters="8859/1"))
+            results.tell("new orders are taken", None if codes == ["AA"] * 3 else str(codes))
+            found = {first(it, "0040A370", "00402016"): it for it in steps(server.port)}
+            told = {path: first(found.get("1", {}), *path) for path in WANTED}
+            wrong = {path: it for path, it in told.items() if it != WANTED[path]}
+            results.tell("each is a step, with what the table says", f"{sorted(found)}, {wrong}" if wrong or len(found) != 4 else None)
+            name = first(found.get("4", {}), "00100010")
+            results.tell("also in another character set", None if name == WANTED["00100010",] else str(name))
+            codes = orders.send(message("ORM^O01", "NW", 1, 2), message("ORM^O01", "XO", 2, label="CT neck"), message("ORM^O01", "CA", 1))
+            states = {first(it, "0040A370", "00402016"): (first(it, "00741000"), first(it, "00741204")) for it in steps(server.port)}
+            wanted = {"1": ("CANCELED", "CT head & neck"), "2": ("SCHEDULED", "CT neck"), **dict.fromkeys("34", ("SCHEDULED", "CT head & neck"))}
+            results.tell("twice is once, a change sets, a cancellation cancels", None if codes == ["AA"] * 3 and states == wanted else f"{codes}, {states}")
+            codes = orders.send(message("ORM^O01", "CA", 99), message("ORM^O01", "SC", 1), message("ADT^A01", "NW", 5), message("ORM^O01", "NW"))
+            fits = [it.startswith(f"AR {why}") for it, why in zip(codes, ("C307", "the order control", "ADT", "a message without"))]
+            results.tell("what can't be done is refused, with the reason", None if all(fits) else str(codes))
+            server.stop()
+            codes = orders.send(message("ORM^O01", "NW", 6))
+            results.tell("without the server a sender is to send again", None if codes[0].startswith("AE") else str(codes))
+        finally:
+            orders.end()
+
+
+# a modality worklist
+
+ENTRY = """(0008,0005) CS [ISO_IR 100]
+(0008,0050) SH [A{number}]
+(0010,0010) PN [M\xfcLLER^J\xdcRGEN]
+(0010,0020) LO [P{number}]
+(0010,0030) DA [19610504]
+(0010,0040) CS [M]
+(0020,000d) UI [1.2.3.9.{number}]
+(0032,1060) LO [CT head]
+(0040,0100) SQ
+(fffe,e000) -
+(0008,0060) CS [CT]
+(0040,0001) AE [CT1]
+(0040,0002) DA [{day}]
+(0040,0003) TM [101500]
+(0040,0007) LO [CT head native]
+(0040,0009) SH [S{number}]
+(0040,0010) SH [Room 1]
+(fffe,e00d) -
+(fffe,e0dd) -
+(0040,1001) SH [R{number}]
+(0040,1003) SH [{priority}]
+"""
+
+
+@contextlib.contextmanager
+def worklist(folder: str, days: list[str]) -> Iterator[int]:
+    """Runs wlmscpfs with an entry for each day, and yields its port."""
+    os.mkdir(os.path.join(folder, "MWL"))
+    open(os.path.join(folder, "MWL", "lockfile"), "w", encoding="ascii").close()
+    for number, day in enumerate(days):
+        text = ENTRY.format(number=number, day=day, priority="STAT" if number == 0 else "ROUTINE")
+        with open(os.path.join(folder, "entry"), "w", encoding="latin-1") as file:
+            file.write(text)
+        subprocess.run(["dump2dcm", "--quiet", os.path.join(folder, "entry"), os.path.join(folder, "MWL", f"{number}.wl")], check=True)
+    port = free_port()
+    with subprocess.Popen(["wlmscpfs", "-dfp", folder, str(port)], stderr=subprocess.DEVNULL) as process:
+        try:
+            holds(lambda: listens(port), 20)
+            yield port
+        finally:
+            process.terminate()
+
+
+def try_worklist(results: Results, program: list[str]) -> None:
+    today, later = (f"{datetime.date.today() + datetime.timedelta(days=it):%Y%m%d}" for it in (0, 40))
+    with tempfile.TemporaryDirectory() as folder, Server(program, "--keep", "3600") as server, worklist(folder, [today, today, later]) as port:
+        variables = {"UPS_SERVER": f"127.0.0.1:{server.port}", "UPS_COMMAND": " ".join(CLIENT)}
+        words = [sys.executable, os.path.join(HERE, "examples/mwl_steps.py"), f"MWL=127.0.0.1:{port}"]
+        for _ in range(2):
+            ran = subprocess.run(words, capture_output=True, text=True, env={**os.environ, **variables}, timeout=120, check=False)
+            results.tell("a worklist is walked", None if ran.returncode == 0 else ran.stdout + ran.stderr)
+        found = {first(it, "00100020"): it for it in steps(server.port)}
+        step = found.get("P0", {})
+        told = (sorted(found), len(steps(server.port)), first(step, "00100010"), first(step, "00404005"), first(step, "00741200"), first(step, "00741202"),
+                first(step, "00741204"), first(step, "00404025", "00080100"), first(step, "0040A370", "0020000D"), first(step, "0040A370", "00080050"))
+        start = datetime.datetime.strptime(f"{today}101500", "%Y%m%d%H%M%S").astimezone().strftime("%Y%m%d%H%M%S%z")
+        wanted = (["P0", "P1"], 2, {"Alphabetic": "MüLLER^JÜRGEN"}, start, "HIGH", "CT", "CT head native", "CT1", "1.2.3.9.0", "A0")
+        results.tell("each entry of today is one step, also the second time", None if told == wanted else f"{told}, and not {wanted}")
+
+
 def main() -> None:
     parser = argparse.ArgumentParser(description=__doc__, formatter_class=argparse.RawDescriptionHelpFormatter)
     parser.add_argument("program", nargs="*", default=[os.path.join(HERE, "crates/upsd/out/upsd")],
                         help="the program, and words before those of `serve` (crates/upsd/out/upsd, which `rt run` builds)")
     asked = parser.parse_args()
-    install({ORTHANC: "orthanc", "storescu": "dcmtk", **({} if os.path.exists(PLUGIN) else {PLUGIN: "orthanc-python"})})
+    hl7 = importlib.util.find_spec("hl7") or not subprocess.run(["/usr/bin/python3", "-c", "import hl7"], stderr=subprocess.DEVNULL).returncode
+    install({ORTHANC: "orthanc", "storescu": "dcmtk", **({} if hl7 else {"python3 with hl7": "python3-hl7"}), **({} if os.path.exists(PLUGIN) else {PLUGIN: "orthanc-python"})})
     warnings.simplefilter("ignore")
     signal.signal(signal.SIGALRM, lambda *_: sys.exit(f"recipes.py: not done in {ALL} seconds"))
     signal.alarm(ALL)
@@ -201,10 +372,9 @@ def main() -> None:
             uids = try_study(results, server.port, orthanc)
             try_performer(results, server.port, orthanc, uids)
             try_one_more(results, server.port, orthanc)
-            server.stop()
-            send(orthanc, OTHER, (1, 1))
-            found = holds(lambda: orthanc.has_logged(f"no step for the study {OTHER}: "), 60)
-            results.tell("a study that gets no step is in Orthanc's log", None if found else "it isn't")
+            try_away(results, asked.program, server, orthanc)
+    try_orders(results, asked.program)
+    try_worklist(results, asked.program)
     results.end("recipes")
 
 

@@ -15,23 +15,23 @@ from ups.faults import Refused
 from ups.files import as_new, data_sets, is_scheduled
 from ups.moments import moment_now
 from ups.operations import act, change, create_step, update
-from ups.terms import PUSH, STATES, is_done, new_uid, told
+from ups.terms import PUSH, SOP_CLASS, SOP_INSTANCE, STATE, STATES, TRANSACTION, is_done, new_uid, told
 
 # what a new step has if neither an option nor a file says otherwise
 NEW = {"InputReadinessState": "READY", "ScheduledProcedureStepPriority": "MEDIUM", "ProcedureStepLabel": "READ"}
 
 
-def template_of(path: Optional[str]) -> Dataset:
-    """Returns the only data set of a file as a new step; without a file an empty one."""
+def only_data_set(path: Optional[str]) -> Dataset:
+    """Returns the only data set of a file; without a file an empty one."""
     found = data_sets(path) if path else [Dataset()]
     if len(found) != 1:
         raise Refused(f"{path} has {len(found)} data sets: `ups import` creates several steps")
-    return as_new(found[0])
+    return found[0]
 
 
 def create(association: Association, asked: argparse.Namespace) -> int:
     """Creates a step: of the file, then the options, and then the defaults for what neither has."""
-    step = template_of(asked.source)
+    step = as_new(only_data_set(asked.source))
     given = {"PatientName": asked.patient_name, "PatientID": asked.patient_id, "WorklistLabel": asked.worklist,
              "ScheduledProcedureStepStartDateTime": asked.start, "InputReadinessState": asked.readiness,
              "ScheduledProcedureStepPriority": asked.priority, "ProcedureStepLabel": asked.label}
@@ -80,7 +80,11 @@ def claim(association: Association, asked: argparse.Namespace) -> int:
 
 
 def set_attributes(association: Association, asked: argparse.Namespace) -> int:
-    return update(association, asked.step, asked.transaction, attributes_of(asked.attributes))
+    """Sets the attributes of a file, and then those of the options; not what tells the step itself, which none may set."""
+    given = only_data_set(asked.source)
+    for tag in (SOP_CLASS, SOP_INSTANCE, TRANSACTION, STATE):
+        given.pop(tag, None)
+    return update(association, asked.step, asked.transaction, attributes_of(asked.attributes, given))
 
 
 def cancel(association: Association, asked: argparse.Namespace) -> int:

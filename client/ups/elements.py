@@ -3,7 +3,7 @@
 from __future__ import annotations
 
 import struct
-from typing import Optional
+from typing import Iterator, Optional
 
 from pydicom.dataset import Dataset
 
@@ -37,6 +37,14 @@ def elements_of(found: bytes) -> dict[int, tuple[bytes, bytes]]:
 def first_item(sequence: bytes) -> bytes:
     """Returns the content of the first item of a sequence of explicit length; empty if it has none."""
     return sequence[8 : 8 + int.from_bytes(sequence[4:8], "little")]
+
+
+def items_of(sequence: bytes) -> Iterator[bytes]:
+    """Yields the content of each item of a sequence of explicit length."""
+    while sequence:
+        length = int.from_bytes(sequence[4:8], "little")
+        yield sequence[8 : 8 + length]
+        sequence = sequence[8 + length :]
 
 
 def value_at(found: bytes, *path: int) -> str:
