@@ -3,7 +3,8 @@
 
     trials/board.py [--program PROGRAM [WORD..]] [--steps 200] [--many 10000] [--picture FILE]
 
-It installs what is missing (`apt-get install -y chromium python3-pydicom python3-websocket`, which needs root), starts a server
+It installs what is missing (`apt-get install -y chromium nginx-light openssl python3-pydicom python3-tinycss2 python3-websocket tidy`,
+which needs root), starts a server
 and a board on free ports of this machine, and ends by itself. It prints a line for each trial, and then `N passed, M failed`;
 the exit status is 1 if any failed.
 
@@ -14,11 +15,17 @@ the exit status is 1 if any failed.
     a search     part of a patient's name leaves that patient's steps
     an event 4   `ups announce` is shown, and makes the board subscribe again
     a restart    the server is stopped: the page says so; it is started again, and both tellings agree on what it holds
-    many         a server holds 10,000 steps: the page draws the newest 200 of a state within 2 seconds, while reports are coming
+    many         a server holds 10,000 steps: the page draws the first 200 of a state within 2 seconds, while reports are coming
                  and at rest
-    waiting      the page names the steps that have waited longest, and shows the age of a claim as its performer tells it
-    elsewhere    a request without the token of the board, or with another one, or that names another host gets nothing, and the
-                 port is open to this machine alone
+    waiting      the page names the steps that have waited longest, the age of a claim as its performer tells it, and claims that are
+                 old; it counts what was completed and canceled today, and has the median wait
+    an order     SCHEDULED has the urgent and the oldest first; a card has the whole patient ID and the birth date beside a long name; a
+                 worklist and a station are chosen by the address and by the page, a step by the keyboard
+    elsewhere    a request without the token of the board, or with another one, or that names another host or comes from the page of
+                 one gets nothing, and the port is open to this machine alone; no page may have the board in a frame
+    a proxy      nginx, as docs/use/operating.md has it: who logs in sees the page, without a token, and nobody else does
+    no report    a board to which no report comes says that worklist and reports differ, in red
+    the files    tidy finds no fault in the page, nor tinycss2 in its style
     the console  has no error
 """
 
@@ -33,6 +40,7 @@ import os
 import re
 import shutil
 import signal
+import ssl
 import subprocess
 import sys
 import tempfile
@@ -133,6 +141,14 @@ class Browser:
             time.sleep(0.02)
         return None
 
+    def key(self, name: str) -> None:
+        """Presses a key, and lets it go."""
+        for kind in ("rawKeyDown", "char", "keyUp") if name == "Enter" else ("rawKeyDown", "keyUp"):
+            code = {"Enter": 13, "Escape": 27}[name]
+            text = {"text": "\r"} if kind == "char" else {}
+            self.ask("Input.dispatchKeyEvent", type=kind, key=name, code=name, windowsVirtualKeyCode=code, **text)
+        time.sleep(0.2)
+
     def scheme(self, word: str) -> None:
         """Sets light or dark colors."""
         self.ask("Emulation.setEmulatedMedia", features=[{"name": "prefers-color-scheme", "value": word}])
@@ -156,15 +172,19 @@ class Browser:
 class Board:
     """`ups board` on a free port, for a server."""
 
-    def __init__(self, server_port: int, listen: int, *words: str) -> None:
-        command = [sys.executable, CLIENT, "board", "--server-port", str(server_port), "--port", "0", "--ae", "BOARD",
+    def __init__(self, server_port: int, listen: int, *words: str, place: Optional[tuple[int, str]] = None) -> None:
+        """Starts it. `place` has the port of a proxy, and the token, where the board prints the proxy's address and no token."""
+        own = free_port()
+        command = [sys.executable, CLIENT, "board", "--server-port", str(server_port), "--port", str(own), "--ae", "BOARD",
                    "--listen", str(listen), *words]
         self.process = subprocess.Popen(command, stdout=subprocess.PIPE, text=True)
         line = self.process.stdout.readline()
-        found = re.fullmatch(r"the board is at ((http://127\.0\.0\.1:(\d+)/)\?token=([\w-]+))\n", line)
-        if not found:
+        self.top, self.port = f"http://127.0.0.1:{own}/", own
+        found = re.fullmatch(r"the board is at (https?://127\.0\.0\.1:\d+/)(?:\?token=([\w-]+))?\n", line)
+        if not found or found[1] != (f"https://127.0.0.1:{place[0]}/" if place else self.top) or bool(found[2]) == bool(place):
             sys.exit(f"the board printed {line!r}")
-        self.address, self.top, self.port, self.token = found[1], found[2], int(found[3]), found[4]
+        self.token = place[1] if place else found[2]
+        self.address = f"{self.top}?token={self.token}"
 
     def path(self, path: str, **words: str) -> str:
         """Returns the address of a request."""
@@ -207,7 +227,7 @@ class Workstation(threading.Thread):
         code = [{"CodeValue": self.station, "CodingSchemeDesignator": "99HOSP", "CodeMeaning": f"Room {self.station}"}]
         label = LABELS[(number + 2 * self.place) % len(LABELS)]
         self.ask(stock.create(uid, SpecificCharacterSet="ISO_IR 192", PatientName=PATIENTS[patient],
-                              PatientID=f"P{1000 + patient}",
+                              PatientID=f"P{1000 + patient}", PatientBirthDate=f"{1940 + 7 * patient}0{patient + 1}12", WorklistLabel=label[:2],
                               ProcedureStepLabel=label, ScheduledStationNameCodeSequence=code,
                               ScheduledProcedureStepStartDateTime=time.strftime("%Y%m%d%H%M%S"),
                               ScheduledProcedureStepPriority="HIGH" if number % 6 == 2 else "MEDIUM"), uid, "SCHEDULED")
@@ -310,11 +330,58 @@ def try_step(browser: Browser, uid: str, results: Results) -> None:
     browser.run("document.getElementById('close').click()")
 
 
+def try_day(board: Board, stations: list[Workstation], results: Results) -> None:
+    """Tries the counts of the day, and the median wait."""
+    final = [state for each in stations for state in each.final.values()]
+    wanted, told = {state: final.count(state) for state in ("COMPLETED", "CANCELED")}, board.state()
+    results.tell("the counts of the day", None if told["day"] == wanted else f"{told['day']}, and not {wanted}")
+    results.tell("the median wait", None if told["wait"] is not None and HELD - 1.5 <= told["wait"] <= 60 else str(told["wait"]))
+
+
+LONG_NAME = "VON DER SCHULENBURG-WOLFENBÜTTEL^MAXIMILIAN ALEXANDER FERDINAND"
+ORDERED = {"1.2.7.1": ("LOW", "2020", "CT9"), "1.2.7.2": ("HIGH", "20990101", "CT8"), "1.2.7.3": ("HIGH", "20210101", "CT9"),
+           "1.2.7.4": ("MEDIUM", "2019", "CT8")}  # a step, its priority, its start, its station
+
+
+def try_order(board: Board, browser: Browser, port: int, results: Results) -> None:
+    """Tries the order of SCHEDULED, what a card shows of a patient, and the parts of a worklist."""
+    wire = stock.open_association(port, [it.encode() for it in stock.CONTEXTS], stock.EXPLICIT)
+    for uid, (priority, start, station) in ORDERED.items():
+        code = [{"CodeValue": station, "CodingSchemeDesignator": "99HOSP", "CodeMeaning": station}]
+        wire.ask(*stock.create(uid, SpecificCharacterSet="ISO_IR 192", ScheduledProcedureStepPriority=priority, PatientName=LONG_NAME,
+                               PatientID=f"ID-{uid}-0123456789-0123456789-0123456789", PatientBirthDate="19610504", WorklistLabel="ORDER",
+                               ScheduledProcedureStepStartDateTime=start, ScheduledStationNameCodeSequence=code))
+    cards = "[...document.querySelectorAll('[data-state=SCHEDULED] .card')].map(each => each.dataset.uid)"
+    drawn = f"({cards}).length == 4"
+    browser.go(board.path("", worklist="ORDER"), drawn, 20)
+    wanted = ["1.2.7.3", "1.2.7.2", "1.2.7.4", "1.2.7.1"]
+    results.tell("the urgent and the oldest come first", None if browser.run(cards) == wanted else str(browser.run(cards)))
+    who = "(() => { const it = document.querySelector('.card .who'); return [it.textContent, it.scrollWidth <= it.clientWidth]; })()"
+    told = ["ID-1.2.7.3-0123456789-0123456789-0123456789 born 1961-05-04", True]
+    results.tell("a card has the whole patient ID, and the birth date", None if browser.run(who) == told else str(browser.run(who)))
+    shown = browser.run("document.getElementById('worklist').value")
+    results.tell("the page says which worklist it shows", None if shown == "ORDER" else str(shown))
+    choose = "{ const it = document.getElementById('station'); it.value = 'CT8'; it.dispatchEvent(new Event('change')); }"
+    browser.run(choose)
+    found = holds(lambda: browser.run(cards) == ["1.2.7.2", "1.2.7.4"], 5) and "station=CT8" in browser.run("location.search")
+    results.tell("and of a station, also in its address", None if found else f"{browser.run(cards)}, {browser.run('location.search')}")
+    browser.run("document.querySelector('.card').focus()")
+    browser.key("Enter")
+    found = holds(lambda: "1.2.7.2" in (browser.run("document.getElementById('detail').innerText") or ""), 5)
+    browser.key("Escape")
+    results.tell("a step is chosen by the keyboard, and left", None if found and browser.run("document.getElementById('detail').hidden")
+                 else "it isn't")
+    for uid in ORDERED:
+        wire.ask(*stock.cancel(stock.PUSH, uid))
+    wire.release()
+    browser.go(board.address, "document.querySelectorAll('.card').length > 4", 20)
+
+
 def try_search(browser: Browser, results: Results) -> None:
     type_in = "const it = document.getElementById('find'); it.value = '{}'; it.dispatchEvent(new Event('input')); 0"
     patients = "[...new Set([...document.querySelectorAll('.card .patient')].map(each => each.textContent))]"
     browser.run(f"{{ {type_in.format('müll')} }}")
-    found = holds(lambda: browser.run(patients) == ["MÜLLER, JÜRGEN  ·  P1001"], 5)
+    found = holds(lambda: browser.run(patients) == ["MÜLLER, JÜRGEN"], 5)
     results.tell("a search leaves one patient's steps", None if found else f"it leaves {browser.run(patients)}")
     browser.run(f"{{ {type_in.format('')} }}")
     results.tell("and none all of them", None if holds(lambda: len(browser.run(patients)) == len(PATIENTS), 5)
@@ -340,8 +407,14 @@ def code_of(address: str, **headers: str) -> int:
 
 
 def try_elsewhere(board: Board, results: Results) -> None:
-    code = code_of(board.path("state"), Host="elsewhere.example")
-    results.tell("another host name gets nothing", None if code == 403 else f"{code}")
+    codes = [code_of(board.path("state"), Host="elsewhere.example"), code_of(board.path("state"), Origin="https://elsewhere.example"),
+             code_of(board.path("state"), Origin=board.top.rstrip("/"))]
+    results.tell("another host name, or origin, gets nothing", None if codes == [403, 403, 200] else f"{codes}")
+    with urllib.request.urlopen(board.path(""), timeout=30) as told:
+        policy = told.headers["Content-Security-Policy"]
+    lacks = [it for it in ("default-src 'none'", "frame-ancestors 'none'", "base-uri 'none'", "form-action 'none'", "script-src 'self'")
+             if it not in policy]
+    results.tell("no page may have it in a frame, and it takes nothing from elsewhere", f"the policy lacks {lacks}" if lacks else None)
     codes = {path: [code_of(board.path(path)), code_of(board.top + path), code_of(board.path(path, token=board.token[:-1] + "~")),
                     code_of(board.path(path, token=""))] for path in ("", "state", "step", "none")}
     wanted = {path: [404 if path == "none" else 200, 403, 403, 403] for path in codes}
@@ -349,6 +422,102 @@ def try_elsewhere(board: Board, results: Results) -> None:
     listeners = subprocess.run(["ss", "-Hltn", f"sport = :{board.port}"], capture_output=True, text=True).stdout.split()
     results.tell("the page is on 127.0.0.1 alone", None if f"127.0.0.1:{board.port}" in listeners and len(listeners) == 5
                  else str(listeners))
+
+
+def proxied(folder: str, board_port: int, port: int) -> str:
+    """Returns the configuration of docs/use/operating.md for nginx, with the files of a folder and these ports."""
+    with open(os.path.join(HERE, "docs/use/operating.md"), encoding="utf-8") as page:
+        server = re.search(r"(?ms)^```nginx\n(.*?)^```$", page.read())
+    assert server, "docs/use/operating.md has no configuration of nginx"
+    text = server[1].replace("/etc/nginx/", f"{folder}/").replace("listen 443 ssl", f"listen 127.0.0.1:{port} ssl")
+    text = text.replace("127.0.0.1:8080", f"127.0.0.1:{board_port}")
+    places = "".join(f"{it}_temp_path {folder}/{it};\n" for it in ("client_body", "proxy", "fastcgi", "uwsgi", "scgi"))
+    return (f"user root;\npid {folder}/pid;\nerror_log {folder}/errors;\ndaemon off;\nevents {{}}\n"
+            f"http {{\naccess_log off;\n{places}{text}}}\n")
+
+
+@contextlib.contextmanager
+def proxy(folder: str, board: Board, port: int) -> Iterator[None]:
+    """Runs nginx in front of a board, with a login."""
+    subprocess.run(["openssl", "req", "-x509", "-newkey", "rsa:2048", "-nodes", "-days", "1", "-subj", "/CN=127.0.0.1", "-keyout",
+                    f"{folder}/board.key", "-out", f"{folder}/board.crt"], check=True, capture_output=True)
+    word = subprocess.run(["openssl", "passwd", "-apr1", "secret"], check=True, capture_output=True, text=True).stdout
+    for name, text in (("board.users", f"reader:{word}"), ("board.token", f'proxy_set_header Authorization "Bearer {board.token}";\n'),
+                       ("nginx.conf", proxied(folder, board.port, port))):
+        with open(os.path.join(folder, name), "w", encoding="utf-8") as file:
+            file.write(text)
+    nginx = shutil.which("nginx") or "/usr/sbin/nginx"
+    with subprocess.Popen([nginx, "-p", folder, "-c", f"{folder}/nginx.conf"], stderr=subprocess.PIPE, text=True) as process:
+        try:
+            if not holds(lambda: listens(port) or process.poll() is not None, 10) or process.poll() is not None:
+                sys.exit(f"board.py: nginx does not listen: {process.stderr.read() if process.stderr else ''}")
+            yield
+        finally:
+            process.terminate()
+
+
+def try_proxy(port: int, listen: int, results: Results) -> None:
+    """Tries a board behind nginx."""
+    entry = free_port()
+    origin = f"https://127.0.0.1:{entry}"
+    with tempfile.TemporaryDirectory() as folder:
+        path, token = os.path.join(folder, "token"), "a-token-of-a-trial-in-a-file"
+        with open(path, "w", encoding="utf-8") as file:
+            file.write(token + "\n")
+        board = Board(port, listen, "--origin", origin, "--token-file", path, place=(entry, token))
+        try:
+            with proxy(folder, board, entry):
+                ask = urllib.request.build_opener(urllib.request.HTTPSHandler(context=ssl._create_unverified_context())).open
+                login = {"Authorization": "Basic " + base64.b64encode(b"reader:secret").decode()}
+                codes = []
+                for address, headers in ((f"{origin}/", {}), (f"{origin}/?token={token}", {}), (f"{origin}/", login), (f"{origin}/board.js", login),
+                                         (f"{origin}/state", login), (f"{origin}/state", {**login, "Host": "elsewhere.example"})):
+                    try:
+                        with ask(urllib.request.Request(address, headers=headers), timeout=30) as told:
+                            codes.append(told.status)
+                    except urllib.error.HTTPError as refused:
+                        codes.append(refused.code)
+                results.tell("behind nginx who logs in sees the page, and nobody else", None if codes == [401, 401, 200, 200, 200, 403] else str(codes))
+        finally:
+            results.tell("a board behind a proxy ends at SIGTERM", None if (ended := board.end()) == 0 else f"it ended with {ended}")
+
+
+def try_no_report(port: int, listen: int, browser: Browser, results: Results) -> None:
+    """Tries a board to which no report comes, as --allow names another address than the server's."""
+    board = Board(port, listen, "--allow", "192.0.2.1")
+    color = "getComputedStyle(document.getElementById('verdict')).backgroundColor"
+    browser.go(board.address, "document.readyState == 'complete'", 10)
+    found = holds(lambda: browser.run(color) == "rgb(179, 38, 30)", 20)
+    told = browser.run("document.getElementById('verdict').textContent")
+    results.tell("a board without reports says so, in red", None if found and "Worklist and reports differ on" in told
+                 else f"{browser.run(color)}, {told!r}")
+    browser.go("about:blank", "document.readyState == 'complete'", 10)
+    board.end()
+
+
+def css_faults(text: str) -> list[str]:
+    """Returns what tinycss2 can't read of a style."""
+    import tinycss2
+    faults = []
+    nodes = tinycss2.parse_stylesheet(text, skip_comments=True, skip_whitespace=True)
+    while nodes:
+        node = nodes.pop()
+        if node.type == "error":
+            faults.append(f"line {node.source_line}: {node.message}")
+        elif node.type == "at-rule":
+            nodes += tinycss2.parse_rule_list(node.content or [], skip_comments=True, skip_whitespace=True)
+        elif node.type == "qualified-rule":
+            nodes += tinycss2.parse_declaration_list(node.content, skip_comments=True, skip_whitespace=True)
+    return faults
+
+
+def try_files(results: Results) -> None:
+    """Tries the files of the page with what Debian has to check them."""
+    folder = os.path.join(HERE, "client/ups/page")
+    ran = subprocess.run(["tidy", "-e", "-q", os.path.join(folder, "board.html")], capture_output=True, text=True)
+    results.tell("tidy, of the page", ran.stderr.strip() or None)
+    with open(os.path.join(folder, "board.css"), encoding="utf-8") as file:
+        results.tell("tinycss2, of its style", "; ".join(css_faults(file.read())) or None)
 
 
 def try_waiting(board: Board, browser: Browser, port: int, results: Results) -> None:
@@ -364,12 +533,15 @@ def try_waiting(board: Board, browser: Browser, port: int, results: Results) -> 
                  stock.move(uids[0], "IN PROGRESS"), stock.change(uids[0], **stock.OWN, **begun)]
     statuses = [wire.ask(*request)[-1][0].Status for request in requests]
     texts = "[...document.querySelectorAll('#longest button')].map(each => each.textContent)"
-    wanted = ["25 h 0 min: wait 1", "1 h 1 min: wait 5", "10 min: wait 2", "1 min: wait 4"]
+    wanted = ["25 h: wait 1", "1 h 1 min: wait 5", "10 min: wait 2", "1 min: wait 4"]
     found = not any(statuses) and holds(lambda: [it.partition(",")[0] for it in browser.run(texts)][:4] == wanted, 10)
     results.tell("the page names the steps that wait longest", None if found else f"{statuses}, {browser.run(texts)}")
     claim = f"document.querySelector('[data-uid=\"{uids[0]}\"] .where').textContent"
     found = holds(lambda: (browser.run(claim) or "").endswith(", 2 h 5 min"), 10)
     results.tell("and the age of a claim", None if found else f"it says {browser.run(claim)!r}")
+    old = "[...document.querySelectorAll('#old button')].map(each => each.textContent)"
+    found = holds(lambda: (browser.run(old) or [""])[0].startswith("2 h 5 min: wait 0"), 10) and len(browser.run(old)) == 1
+    results.tell("and a claim that is old", None if found else str(browser.run(old)))
     browser.run("document.querySelector('#longest button').click()")
     found = holds(lambda: uids[1] in browser.run("document.getElementById('detail').innerText"), 5)
     results.tell("and one of them at a click", None if found else "it doesn't")
@@ -433,7 +605,7 @@ def try_many(program: list[str], browser: Browser, many: int, results: Results) 
     with Server(program, "--keep", "86400", f"BOARD=127.0.0.1:{listen}") as server:
         fill(server.port, many)
         board = Board(server.port, listen)
-        drawn = "document.querySelectorAll('.card').length == 200 && document.body.innerText.includes('newest of')"
+        drawn = "document.querySelectorAll('.card').length == 200 && document.body.innerText.includes('the first 200 of')"
         try:
             holds(lambda: board.state()["steps"] == many, 60)
             holds(lambda: board.state()["told"] > 0, 60)
@@ -448,30 +620,58 @@ def try_many(program: list[str], browser: Browser, many: int, results: Results) 
             results.tell("the board ends at SIGTERM", None if (ended := board.end()) == 0 else f"it ended with {ended}")
 
 
+# of a picture: a state, and how many minutes before it each of its steps was to begin
+SCENE = {"SCHEDULED": (96, 41, 28, 17, 12, 5, -10, -25, -40, -55), "IN PROGRESS": (151, 74, 55, 43, 38, 31), "CANCELED": (170, 120, 66),
+         "COMPLETED": (240, 225, 214, 190, 181, 166, 158, 149, 133, 127, 112, 104, 92, 87)}
+
+
+def scene(port: int) -> int:
+    """Makes the steps of a picture, and returns how many there are."""
+    wire = stock.open_association(port, [it.encode() for it in stock.CONTEXTS], stock.EXPLICIT)
+    before = lambda minutes: time.strftime("%Y%m%d%H%M%S%z", time.localtime(time.time() - 60 * minutes))
+    places = [(state, minutes) for state, starts in SCENE.items() for minutes in starts]
+    for number, (state, minutes) in enumerate(places):
+        uid, patient, station, label = f"1.2.8.{number + 1}", number * 3 % len(PATIENTS), STATIONS[number % 3], LABELS[number * 5 % len(LABELS)]
+        code = [{"CodeValue": station, "CodingSchemeDesignator": "99HOSP", "CodeMeaning": f"Room {station}"}]
+        performed = {"PerformedStationNameCodeSequence": code, "PerformedProcedureStepStartDateTime": before(minutes - 9 - number % 5)}
+        requests = [stock.create(uid, SpecificCharacterSet="ISO_IR 192", PatientName=PATIENTS[patient], PatientID=f"P{1000 + patient}",
+                                 PatientBirthDate=f"{1940 + 7 * patient}0{patient + 1}12", ProcedureStepLabel=label, WorklistLabel=label[:2],
+                                 ScheduledStationNameCodeSequence=code, ScheduledProcedureStepStartDateTime=before(minutes),
+                                 ScheduledProcedureStepPriority="HIGH" if number % 5 == 3 else "MEDIUM")]
+        if state != "SCHEDULED":
+            requests += [stock.move(uid, "IN PROGRESS"), stock.change(uid, **stock.OWN, UnifiedProcedureStepPerformedProcedureSequence=[performed])]
+        if state == "IN PROGRESS":
+            requests.append(stock.change(uid, **stock.OWN, ProcedureStepProgressInformationSequence=[
+                {"ProcedureStepProgress": "50", "ProcedureStepProgressDescription": "series 2 of 4"}]))
+        if state == "COMPLETED":
+            ended = {**performed, "PerformedProcedureStepEndDateTime": before(max(1, minutes - 40))}
+            requests += [stock.change(uid, **stock.OWN, UnifiedProcedureStepPerformedProcedureSequence=[ended]), stock.move(uid, state)]
+        if state == "CANCELED":
+            requests += [stock.change(uid, **stock.OWN, **stock.GIVEN_UP), stock.move(uid, state)]
+        statuses = [wire.ask(*request)[-1][0].Status for request in requests]
+        assert not any(statuses), statuses
+    wire.release()
+    return len(places)
+
+
 def take_picture(program: list[str], browser: Browser, path: str) -> Optional[str]:
-    """Takes pictures of the page in the middle of slow work, with a held step chosen, at a moment at which both tellings agree."""
-    count = "state => document.querySelectorAll(`[data-state='${state}'] .card`).length"
-    begun = f"['SCHEDULED', 'IN PROGRESS', 'COMPLETED'].map({count}).every((there, place) => there > [5, 5, 15][place])"
-    ready = f"!!document.querySelector('.verdict.agree') && {begun}"
-    held = "[data-state=\"IN PROGRESS\"] .card"
+    """Takes pictures of the page, with a held step chosen, and in dark colors without one."""
     port, listen = free_port(), free_port()
     with tried(program, port, listen):
         board = Board(port, listen)
         browser.go(board.address, "document.readyState == 'complete'", 10)
-        for place in range(3):
-            Workstation(port, place, 80, 6).start()
-        for _ in range(10):
-            holds(lambda: browser.run(ready), 40)
-            browser.run(f"document.querySelector('{held}').click()")
-            holds(lambda: browser.run("document.querySelectorAll('#life li').length > 2"), 2)
-            browser.picture(path)
-            if browser.run(f"{ready} && !!document.querySelector('{held}[aria-pressed=true]')"):
-                break
-            browser.run("document.getElementById('close').click()")
+        count = scene(port)
+        fault = None if holds(lambda: board.agrees(count), 120) else "the tellings do not agree"
+        holds(lambda: browser.run("!!document.querySelector('.verdict.agree')"), 20)
+        browser.run("document.querySelector('[data-state=\"IN PROGRESS\"] li:nth-child(2) .card').click()")
+        holds(lambda: browser.run("document.querySelectorAll('#life li').length > 2"), 20)
+        browser.picture(path)
+        browser.run("document.getElementById('close').click()")
         browser.scheme("dark")
         browser.picture(re.sub(r"\.png$", "-dark.png", path))
+        browser.go("about:blank", "document.readyState == 'complete'", 10)
         board.end()
-    return None if os.path.getsize(path) < 150_000 else f"{path} has {os.path.getsize(path):,} bytes"
+    return fault or (None if os.path.getsize(path) < 150_000 else f"{path} has {os.path.getsize(path):,} bytes")
 
 
 def try_all(asked: argparse.Namespace, browser: Browser, results: Results) -> None:
@@ -481,13 +681,22 @@ def try_all(asked: argparse.Namespace, browser: Browser, results: Results) -> No
         browser.go(board.address, "document.readyState == 'complete'", 10)
         stations = try_lives(board, browser, port, asked.steps, results)
         try_step(browser, next(uid for uid, state in stations[0].final.items() if state == "COMPLETED"), results)
+        try_day(board, stations, results)
         try_search(browser, results)
         try_elsewhere(board, results)
         try_waiting(board, browser, port, results)
-        try_announcement(board, browser, listen, asked.steps + WAITING, results)
+        try_order(board, browser, port, results)
+        try_announcement(board, browser, listen, asked.steps + WAITING + len(ORDERED), results)
+        browser.go("about:blank", "document.readyState == 'complete'", 10)
+        board.end()
+        try_proxy(port, listen, results)
+        try_no_report(port, listen, browser, results)
+        board = Board(port, listen)
+        browser.go(board.address, "document.readyState == 'complete'", 10)
     try_restart(asked.program, board, browser, port, listen, results)
     browser.go("about:blank", "document.readyState == 'complete'", 10)  # before the board ends, which the page would report as an error
     board.end()
+    try_files(results)
     if asked.many:
         try_many(asked.program, browser, asked.many, results)
     browser.run("0")
@@ -502,9 +711,10 @@ def main() -> None:
     parser.add_argument("--many", type=int, default=10_000, help="steps of a large worklist (10,000; 0 leaves it out)")
     parser.add_argument("--picture", metavar="FILE", help="takes a picture of the page and one in dark colors, and no trial")
     asked = parser.parse_args()
-    install({"chromium": "chromium"})
-    if not importlib.util.find_spec("websocket"):
-        subprocess.run(["apt-get", "install", "-y", "python3-websocket"], check=True, stdout=subprocess.DEVNULL)
+    install({"chromium": "chromium", "/usr/sbin/nginx": "nginx-light", "openssl": "openssl", "tidy": "tidy"})
+    for module, package in (("websocket", "python3-websocket"), ("tinycss2", "python3-tinycss2")):
+        if not importlib.util.find_spec(module):
+            subprocess.run(["apt-get", "install", "-y", package], check=True, stdout=subprocess.DEVNULL)
     signal.signal(signal.SIGALRM, lambda *_: sys.exit(f"board.py: not done in {ALL} seconds"))
     signal.alarm(ALL)
     results, browser = Results(), Browser()

@@ -26,6 +26,7 @@ failed. trials/stock.py has the life of steps through the client, and trials/boa
     strangers    `watch`, also with --json and --exec, `board`, and an address that --allow does not name: whatever strangers send
                  ends their association alone, with a line; the next report is taken. Commands with a server that sends such things
     people       the heading and the columns of `find` on a terminal, and none elsewhere; what -v tells
+    rescue       the claims of a store with their Transaction UIDs, and the end of one, which the server's log says who asked for
     words        numbers that are none or too large end no command by a traceback; an interrupt, a reader that is gone, --version
 """
 
@@ -443,6 +444,37 @@ def try_health_of_store(results: Results, program: list[str], file: str) -> None
         results.tell("the creation is there", wrong(run("get", "1.2.14.1", *place), DONE))
 
 
+def try_rescue(results: Results, program: list[str], folder: str) -> None:
+    """Tries `rescue`: the claims in the store of a server that runs, and the end of one of them."""
+    file = os.path.join(folder, "claims.db")
+    subprocess.run([*program, "init", file], check=True)
+    with Server(program, "--keep", "3600", "--audit", "--store", file) as server:
+        place, store = ["--port", str(server.port)], ["--store", file]
+        for number in range(4):
+            run("create", f"1.2.19.{number}", *place)
+        claims = [run("claim", f"1.2.19.{number}", "--transaction", f"2.25.{number}", "--ae", f"PERFORM{number}", *place) for number in (1, 2, 3)]
+        run("finish", "1.2.19.3", "--transaction", "2.25.3", *place)
+        ran = run("rescue", *store)
+        lines = [line.split("  ") for line in ran.out.splitlines()]
+        told = [(line[0], line[1], line[-1]) for line in lines]
+        fault = wrong(ran, DONE) or (None if told == [("1.2.19.1", "PERFORM1", "2.25.1"), ("1.2.19.2", "PERFORM2", "2.25.2")] else ran.out)
+        results.tell("rescue tells the claims", fault or (str(claims) if any(it.status for it in claims) else None))
+        late = abs(datetime.datetime.fromisoformat(lines[0][2]).timestamp() - time.time()) if lines else LIMIT
+        results.tell("and when they began", None if late < LIMIT else ran.out)
+        ran = run("rescue", "1.2.19.1", "--canceled", "--reason", "the workstation is gone", "--ae", "SUPERVISOR", *store, *place)
+        results.tell("and ends one", wrong(ran, DONE, "2.25.1", "0000 success"))
+        step = json_of(run("get", "--json", "1.2.19.1", *place))["1.2.19.1"]
+        reason = step["00741002"]["Value"][0].get("00741238", {}).get("Value")
+        results.tell("which is canceled, with the reason", None if step["00741000"]["Value"] == ["CANCELED"] and reason == ["the workstation is gone"]
+                     else str(step))
+        form = r"audit: Change #\d+ SUPERVISOR 127\.0\.0\.1:\d+, 1\.2\.19\.1, 0000, IN PROGRESS to CANCELED"
+        found = holds(lambda: any(re.search(form, line) for line in server.log), 5)
+        results.tell("and an audit line says who asked for it", None if found else str(server.log[-5:]))
+        results.tell("rescue of a step that nobody holds", wrong(run("rescue", "1.2.19.1", *store), REFUSED, "is not claimed"))
+        results.tell("rescue of a store that is missing", wrong(run("rescue", "--store", f"{file}.none"), NO_ANSWER, "No such file"))
+        results.tell("rescue of all at once", wrong(run("rescue", "--canceled", *store), NO_ANSWER, "needs a step"))
+
+
 def try_watch(results: Results, program: list[str]) -> None:
     """Tries a watcher that answers with a failure, and one that is slow."""
     listen = free_port()
@@ -833,7 +865,10 @@ WRONG: list[tuple[str, int, str]] = [
     ("work --every 99999999999", NO_ANSWER, "is no number of seconds"), ("health --within 99999999", 3, "is no duration"),
     ("status --nagios --timeout 0", 3, "is no duration"), ("echo --host nowhere..invalid", NO_ANSWER, "is no name of a host"),
     ("echo --port 1", NO_ANSWER, "127.0.0.1:1: Connection refused"), ("export --port 1", NO_ANSWER, "127.0.0.1:1: Connection refused"),
-    ("work --retries -1", NO_ANSWER, "is no count"), ("echo --tls-ca /none", NO_ANSWER, "refused"),
+    ("board --bind nowhere --listen 0", NO_ANSWER, "is no address"), ("board --bind 0.0.0.0 --listen 0", NO_ANSWER, "needs --origin"),
+    ("board --origin ftp://board", NO_ANSWER, "is no origin"), ("board --origin https://board/page", NO_ANSWER, "is no origin"),
+    ("board --token-file /none --listen 0", NO_ANSWER, "No such file"), ("rescue --store /etc/hostname", NO_ANSWER, "can't be read"),
+    ("board --claimed x", NO_ANSWER, "is no number of seconds"), ("work --retries -1", NO_ANSWER, "is no count"), ("echo --tls-ca /none", NO_ANSWER, "refused"),
     ("watch --tls --listen 0", NO_ANSWER, "needs --tls-certificate"), ("announce W1=127.0.0.1:1", NO_ANSWER, "W1: 127.0.0.1:1: Connection"),
     ("board --server-port 1 --address 127.0.0.1 --listen 1 --port 1 --timeout 0", NO_ANSWER, "is no duration"),
 ]
@@ -953,6 +988,7 @@ def main() -> None:
         try_moving(results, asked.program, folder)
         try_scripts(results, asked.program, folder)
         try_health(results, asked.program, folder)
+        try_rescue(results, asked.program, folder)
         try_words(results, folder)
     try_strangers(results)
     try_allowed(results)

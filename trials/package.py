@@ -10,8 +10,8 @@ Two builds must be equal, `lintian` may find no error and no warning, `systemd-a
 synopsis of upsd(8) must have the options of each --help. The program has to say of what commit it was proved, or that it was
 not, as the package's file PROVED does. Then `debootstrap` makes a Debian 12 with systemd (some 300 MB from deb.debian.org), and
 `systemd-nspawn` boots it, with a network of its own. There the package is installed with what it depends on; the unit, as it is
-but for the words in /etc/default/upsd, runs the tour of README.md through `ups`; a restart, an upgrade, a hangup, a wrong word,
-a removal and a purge must do what the package says. A reload must leave the server alone if a start would refuse its options
+but for the words in /etc/default/upsd, runs the tour of README.md through `ups`; that of the board shows its step; a restart, an
+upgrade, a hangup, a wrong word, a removal and a purge must do what the package says. A reload must leave the server alone if a start would refuse its options
 (other terms, a port that is taken, a wrong word), and else restart it: with a further watcher, another store, a right that is
 given, and a watcher that is retired. `systemd-analyze verify` may say nothing of the units. The unit of the backup makes one,
 which is restored, and leaves a server that goes on if it is killed. With the lines for a cluster the unit starts on a mounted
@@ -58,7 +58,7 @@ STORED = os.path.join(HERE, "rows/stores/0.2.0/store")
 STORED_WORDS = f"--ae UPSD --port {tour.SERVER_PORT} --bind 127.0.0.1 --keep 1 --offset 60 --store {STORE} WATCH1=127.0.0.1:35611,lock"
 LOADED = "/root/loaded"  # where a program of root's would write what it loads, if the unit's environment told it to
 TAKEN = tour.WATCHER_PORT + 1  # a port that something else has
-UNITS = ("upsd-backup.service", "upsd-backup.timer", "upsd.service")
+UNITS = ("upsd-backup.service", "upsd-backup.timer", "upsd.service", "ups-board.service")
 BESIDES = ("dbus", "iproute2")  # what a Debian has: `systemctl freeze` calls the one, and a cluster's unit has `ss` of the other
 AGENT = "/usr/lib/ocf/resource.d/upsd/upsd"
 DROP_INS = "/etc/systemd/system/{}.d"
@@ -145,7 +145,8 @@ def try_packages(program: str, folder: str, results: Results) -> list[str]:
         name = os.path.basename(package).partition("_")[0]
         results.tell(f"two builds of {name} are equal", unless(content(package) == content(other), "they differ"))
         results.tell(f"lintian, of {name}", lint(package))
-    results.tell("systemd-analyze security", exposure(os.path.join(HERE, "packaging/upsd.service")))
+    for unit in ("upsd.service", "ups-board.service"):
+        results.tell(f"systemd-analyze security {unit}", exposure(os.path.join(HERE, "packaging", unit)))
     results.tell("the synopsis of upsd(8)", synopsis(program))
     return packages
 
@@ -259,7 +260,7 @@ def try_installation(machine: Machine, results: Results) -> None:
     results.tell("which runs, without a server", unless(said.startswith("ups ") and machine.run("id", "upsd").returncode != 0, said))
     results.tell("install", fault_of(machine.run("dpkg", "--install", "/root/upsd.deb")))
     states = [*machine.says("systemctl", "is-enabled", *UNITS[1:]).split(), machine.of_unit("ActiveState")]
-    results.tell("nothing is enabled or started", unless(states == ["disabled", "disabled", "inactive"], " ".join(states)))
+    results.tell("nothing is enabled or started", unless(states == ["disabled"] * 3 + ["inactive"], " ".join(states)))
     ran = machine.run("systemd-analyze", "verify", "--man=no", *UNITS)
     results.tell("systemd-analyze verify", fault_of(ran) or unless(not ran.stderr, ran.stderr))
     results.tell("the system user", fault_of(machine.run("id", "upsd")))
@@ -601,6 +602,35 @@ def try_full_house(machine: Machine, results: Results) -> None:
     results.tell("and runs once there is room", unless(goes_on, machine.of_unit("StatusText")))
 
 
+# the board
+
+ASKS = """import json, sys, urllib.request
+asked = urllib.request.Request("http://127.0.0.1:8080/state", headers={"Host": "board.example", "Authorization": "Bearer " + sys.argv[1]})
+print(json.load(urllib.request.urlopen(asked, timeout=10))["steps"])
+"""
+
+
+def try_board(machine: Machine, results: Results) -> None:
+    """Tries the unit of the board, with a token that is root's, and as what a proxy says to it."""
+    token = "0123456789abcdef0123456789abcdef"
+    write(machine.path("etc/ups-board.token"), f"{token}\n")
+    os.chmod(machine.path("etc/ups-board.token"), 0o600)
+    options = f"--ae WATCH1 --listen {tour.WATCHER_PORT} --server-port {tour.SERVER_PORT} --origin https://board.example"
+    write(machine.path("etc/default/ups-board"), f'UPS_BOARD_OPTIONS="{options}"\n')
+    ran = machine.run("systemctl", "start", "ups-board.service")
+    shows = holds(lambda: machine.says("python3", "-c", ASKS, token) == "1", 60)
+    said = machine.says("journalctl", "--quiet", "--unit=ups-board", "--output=cat")
+    results.tell("the board", fault_of(ran) or unless(shows, said))
+    results.tell("shows nothing without its token", unless(machine.run("python3", "-c", ASKS, "none").returncode != 0, "it does"))
+    pid = machine.says("systemctl", "show", "--property=MainPID", "--value", "ups-board.service")
+    owner = machine.says("ps", "-o", "user=", "-p", pid) or machine.says("stat", "--format=%U", f"/proc/{pid}")
+    results.tell("has a user of its own", unless(owner not in ("", "root", "upsd"), owner))
+    results.tell("and does not log its token", unless("the board is at https://board.example/" in said and token not in said, said))
+    ran = machine.run("systemctl", "stop", "ups-board.service")
+    machine.run("rm", "/etc/ups-board.token")
+    results.tell("stops", fault_of(ran))
+
+
 # an upgrade, and back
 
 def make_earlier(machine: Machine) -> None:
@@ -699,7 +729,7 @@ def try_removal(machine: Machine, before: set[str], results: Results) -> None:
     results.tell("remove", fault_of(machine.run("dpkg", "--remove", "upsd", "ups")))
     left = machine.paths() - before
     stored = {"var/lib/upsd", *(f"var/lib/upsd/upsd.db{it}" for it in ("", "-wal", "-terms"))}
-    kept = {"etc/default/upsd", *stored,
+    kept = {"etc/default/upsd", "etc/default/ups-board", *stored,
             "etc/systemd/system/timers.target.wants/upsd-backup.timer"}
     results.tell("a removal keeps words, store and what was enabled alone", unless(left == kept, f"{sorted(left ^ kept)}"))
     runs = "upsd" in machine.says("sh", "-c", "cat /proc/[0-9]*/comm").split()
@@ -724,6 +754,7 @@ def try_in(root: str, packages: list[str], is_checked: bool, results: Results) -
         before = machine.paths()
         try_installation(machine, results)
         try_unit(machine, commands, results)
+        try_board(machine, results)
         try_backup(machine, results)
         try_ends(machine, commands, results)
         try_cluster(machine, commands, results)

@@ -6,40 +6,47 @@ import argparse
 import contextlib
 import hmac
 import http.server
+import ipaddress
 import json
 import os
 import re
 import secrets
 import signal
+import socket
 import sys
 import threading
 import urllib.parse
-from typing import Any
+from typing import Any, Optional
 
 from ups.board_watcher import Watching
-from ups.faults import Refused
+from ups.faults import Refused, why
+from ups.files import content_of
 from ups.reports import listener_of, take_in_threads
-from ups.worklist import snapshot
+from ups.views import Part, snapshot
 
 
 PAGE = os.path.join(os.path.dirname(os.path.abspath(__file__)), "page")
 FILES = {"/": ("board.html", "text/html"), "/board.css": ("board.css", "text/css"), "/board.js": ("board.js", "text/javascript")}
-POLICY = "default-src 'none'; connect-src 'self'; img-src data:; style-src 'self'; script-src 'self'"
+NONE = "default-src 'none'; base-uri 'none'; form-action 'none'; frame-ancestors 'none'"
+POLICY = f"{NONE}; connect-src 'self'; img-src data:; style-src 'self'; script-src 'self'"
+LEAST_TOKEN = 16  # characters of the token
 
 
 class Pages(http.server.BaseHTTPRequestHandler):
     """The handler of the page, of its style and its script, which say nothing of a server, and of the requests of the page: /state,
-    which waits up to two seconds for a change, and /step. The page and its requests name the token of the board, since any account
-    of this machine can reach the port."""
+    which waits up to two seconds for a change, and /step. The page and its requests name the token of the board, in their address or
+    as a proxy does, in their header: any account of this machine can reach the port."""
 
     protocol_version = "HTTP/1.1"
+    timeout = 60  # seconds for a request, and between two
     watching: Watching
     token: str
+    origins: set[str]  # those under which the page is open, besides this machine's own name
 
     def log_message(self, *_: Any) -> None:
         """Logs nothing."""
 
-    def put(self, kind: str, text: str, policy: str = "default-src 'none'", status: int = 200) -> None:
+    def put(self, kind: str, text: str, policy: str = NONE, status: int = 200) -> None:
         content = text.encode()
         self.send_response(status)
         for name, value in (("Content-Type", kind), ("Content-Length", str(len(content))), ("Cache-Control", "no-store"),
@@ -58,10 +65,12 @@ class Pages(http.server.BaseHTTPRequestHandler):
         worklist, seen = self.watching.worklist, words.get("seen", ["0"])[0]
         with worklist.changed:
             is_new = worklist.changed.wait_for(lambda: str(worklist.version) != seen, timeout=2) or worklist.differing
-        text = words.get("find", [""])[0].strip().casefold()
-        self.put("application/json", json.dumps({**self.place(), **snapshot(worklist, text)} if is_new else {"version": worklist.version}))
+        part = Part(frozenset(words.get("worklist", [])), frozenset(words.get("station", [])),
+                    words.get("find", [""])[0].strip().casefold())
+        told = {**self.place(), **snapshot(worklist, part, self.watching.asked.claimed)} if is_new else {"version": worklist.version}
+        self.put("application/json", json.dumps(told))
 
-    def place(self) -> dict[str, str]:
+    def place(self) -> dict[str, Any]:
         """Returns the title of the page, and whose worklist it shows."""
         asked = self.watching.asked
         return {"title": f"Worklist of {asked.called}", "where": f"{asked.called} at {asked.host}:{asked.port}, watched as {asked.ae}"}
@@ -72,22 +81,29 @@ class Pages(http.server.BaseHTTPRequestHandler):
         except (OSError, Refused) as fault:
             self.put("application/json", json.dumps({"status": f"the server does not answer: {fault}"}))
 
-    def do_GET(self) -> None:
-        """Answers only requests to this machine's own name, so that no page from elsewhere can ask for patients."""
+    def is_of_origin(self) -> bool:
+        """Returns whether a request names an address of the board, so that no page from elsewhere can ask for patients."""
         port = self.connection.getsockname()[1]
-        if self.headers.get("Host") not in (f"127.0.0.1:{port}", f"localhost:{port}"):
-            self.put("text/plain", "the board is for 127.0.0.1 alone\n", status=403)
-            return
+        origins = self.origins | {f"http://{host}:{port}" for host in ("127.0.0.1", "localhost", "[::1]")}
+        asked_by = self.headers.get("Origin")
+        return self.headers.get("Host") in {host_of(it) for it in origins} and (asked_by is None or asked_by in origins)
+
+    def has_token(self, words: dict[str, list[str]]) -> bool:
+        kind, _, given = self.headers.get("Authorization", "").partition(" ")
+        token = given.strip() if kind == "Bearer" else words.get("token", [""])[0]
+        return hmac.compare_digest(token.encode(), self.token.encode())
+
+    def do_GET(self) -> None:
         path, _, text = self.path.partition("?")
-        words = urllib.parse.parse_qs(text)
-        with contextlib.suppress(ConnectionError):
-            if path != "/" and path in FILES:
+        words = urllib.parse.parse_qs(text, max_num_fields=100)
+        with contextlib.suppress(ConnectionError, TimeoutError):
+            if not self.is_of_origin():
+                self.put("text/plain", "the board is not open under this address: see --origin\n", status=403)
+            elif path != "/" and path in FILES:
                 self.put_file(path)
-                return
-            if not hmac.compare_digest(words.get("token", [""])[0].encode(), self.token.encode()):
+            elif not self.has_token(words):
                 self.put("text/plain", "use the address that the board printed when it began: its token is missing here\n", status=403)
-                return
-            if path == "/":
+            elif path == "/":
                 self.put_file(path)
             elif path == "/state":
                 self.put_state(words)
@@ -97,33 +113,60 @@ class Pages(http.server.BaseHTTPRequestHandler):
                 self.put("text/plain", "there is no such page\n", status=404)
 
 
-def token_of_board() -> str:
-    """Returns what each request to a board has to name: UPS_TOKEN, or a new one."""
-    token = os.environ.get("UPS_TOKEN") or secrets.token_urlsafe(24)
-    if not re.fullmatch(r"[\w-]{16,}", token, re.ASCII):
-        raise Refused("UPS_TOKEN has fewer than 16 letters and digits, or others")
+def host_of(origin: str) -> str:
+    return origin.partition("://")[2]
+
+
+def token_of_board(path: Optional[str]) -> str:
+    """Returns what each request to a board has to name: the content of a file, or UPS_TOKEN, or a new one."""
+    if path:
+        token = content_of(path).decode("ascii", "replace").strip()
+    else:
+        token = os.environ.get("UPS_TOKEN") or secrets.token_urlsafe(24)
+    if not re.fullmatch(rf"[\w-]{{{LEAST_TOKEN},}}", token, re.ASCII):
+        raise Refused(f"{path or 'UPS_TOKEN'} has fewer than {LEAST_TOKEN} letters and digits, or others")
     return token
 
 
-def page_server(port: int, pages: type[Pages]) -> http.server.ThreadingHTTPServer:
-    """Listens for the page of a board."""
+class Server(http.server.ThreadingHTTPServer):
+    daemon_threads = True
+
+
+def page_server(asked: argparse.Namespace, pages: type[Pages]) -> http.server.ThreadingHTTPServer:
+    """Listens for the page of a board. At every address of the machine none would be its own, so that others have to be named."""
+    where = f"{asked.bind}:{asked.page}"
     try:
-        return http.server.ThreadingHTTPServer(("127.0.0.1", port), pages)
+        if ipaddress.ip_address(asked.bind).is_unspecified and not asked.origin:
+            raise Refused(f"--bind {asked.bind} needs --origin: the address under which browsers open the page")
+        kind = type("ServerOfBoard", (Server,), {"address_family": socket.AF_INET6 if ":" in asked.bind else socket.AF_INET})
+        server: http.server.ThreadingHTTPServer = kind((asked.bind, asked.page), pages)
+        return server
+    except ValueError:
+        raise Refused(f"{asked.bind!r} is no address") from None
     except OSError as fault:
-        raise Refused(f"127.0.0.1:{port}: {fault.strerror or fault}") from None
+        raise Refused(f"{where}: {why(fault)}") from None
+
+
+def addresses_of(asked: argparse.Namespace, port: int) -> list[str]:
+    """Returns the addresses of a page, the one to print first: what --origin says, and what --bind does."""
+    bound = f"[{asked.bind}]" if ":" in asked.bind else asked.bind
+    return [*asked.origin, f"http://{bound}:{port}"]
 
 
 def board(asked: argparse.Namespace) -> int:
     """Runs the board until it is interrupted."""
     signal.signal(signal.SIGTERM, lambda *_: sys.exit(0))
-    token = token_of_board()
+    token = token_of_board(asked.token_file)
     with listener_of(asked) as listener:
         watching = Watching(asked)
-        pages = type("PagesOfBoard", (Pages,), {"watching": watching, "token": token})
-        with page_server(asked.page, pages) as server:
+        origins: set[str] = set()
+        pages = type("PagesOfBoard", (Pages,), {"watching": watching, "token": token, "origins": origins})
+        with page_server(asked, pages) as server:
+            addresses = addresses_of(asked, server.server_port)
+            origins.update(addresses)
             take_in_threads(listener, asked, watching.report)
             threading.Thread(target=watching.ask, daemon=True).start()
-            print(f"the board is at http://127.0.0.1:{server.server_address[1]}/?token={token}", flush=True)
+            print(f"the board is at {addresses[0]}/{'' if asked.token_file else f'?token={token}'}", flush=True)
             try:
                 server.serve_forever()
             finally:

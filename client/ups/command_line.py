@@ -14,6 +14,7 @@
     ups export --state SCHEDULED > steps.json
     ups import steps.json
     ups work --worklist READS -- ./reprocess.sh {}
+    ups rescue 1.2.3.1 --canceled
     ups status
     ups health
     ups audit /var/log/upsd.log
@@ -54,10 +55,12 @@ from ups.options import (
     add_attributes, add_keys, add_listening, add_performer, add_receiver, add_step, add_transaction, common, of_environment)
 from ups.performer import work
 from ups.questions import echo, export, find, get
+from ups.rescue import rescue
 from ups.subscriptions import subscribe, suspend, unsubscribe
 from ups.terms import PRIORITIES, PULL, PUSH, VERIFICATION, WATCH
 from ups.watching import announce, watch
-from ups.words import count_word, duration_word, limits_word, minutes_word, own_port_word, peer_word, seconds_word, status_word
+from ups.words import (
+    count_word, duration_word, limits_word, minutes_word, origin_word, own_port_word, peer_word, seconds_word, status_word)
 
 STARTS = ("COLD START", "WARM START")  # how lists are after a restart of a server (PS3.4 table CC.2.4-1)
 
@@ -152,6 +155,7 @@ def add_changes(to: Commands) -> None:
     it.add_argument("--transaction", metavar="UID", help="a Transaction UID for the claim (a new one, which is printed first)")
     it = to.add("set", set_attributes, "sets attributes of a step (N-SET)",
                 'set 1.2.3.1 --transaction 2.25.7 -k "ProcedureStepLabel=CT READ 2"', over=PULL)
+    it.add_argument("--from", dest="source", metavar="FILE", help="attributes in DICOM or in JSON (- for standard input), which -k changes")
     add_attributes(add_transaction(add_step(it), required=False), "an attribute")
     it = to.add("finish", finish, "sets what a final state needs and a step lacks, and changes it to COMPLETED",
                 "finish 1.2.3.1 --transaction 2.25.7", over=PULL)
@@ -161,7 +165,17 @@ def add_changes(to: Commands) -> None:
     it = add_step(to.add("cancel", cancel, "asks for a step to be canceled (N-ACTION)",
                          "cancel 1.2.3.1 --reason 'patient has left'", over=PUSH))
     it.add_argument("--reason", help="Reason For Cancellation")
+    add_rescue(to)
     add_work(to)
+
+
+def add_rescue(to: Commands) -> None:
+    it = to.add("rescue", rescue, "tells who holds the steps, with each Transaction UID, by a copy of the server's store, and cancels one",
+                "rescue 1.2.3.1 --canceled --reason 'the workstation is gone'")
+    it.add_argument("step", nargs="?", help="the SOP Instance UID of a step (all that are claimed)")
+    it.add_argument("--store", default="/var/lib/upsd/upsd.db", metavar="FILE", help="that of the server's --store (/var/lib/upsd/upsd.db)")
+    it.add_argument("--canceled", action="store_true", help="changes the step to CANCELED, under the Transaction UID of its claim")
+    it.add_argument("--reason", help="with --canceled: Reason For Cancellation")
 
 
 def add_work(to: Commands) -> None:
@@ -213,8 +227,13 @@ def add_watching(to: Commands) -> None:
                     help="Unified Procedure Step List Status of a restart (COLD START)")
     it = to.add("board", board, "shows the worklist as a page, and beside it what event reports alone tell",
                 "board --port 8080 --ae BOARD --listen 11114")
-    it.add_argument("--port", dest="page", type=own_port_word, default=8080,
-                    help="the port of the page, on 127.0.0.1 alone (8080; 0 for a free one)")
+    it.add_argument("--port", dest="page", type=own_port_word, default=8080, help="the port of the page (8080; 0 for a free one)")
+    it.add_argument("--bind", default="127.0.0.1", metavar="ADDRESS", help="the address of the page, 0.0.0.0 for all (127.0.0.1)")
+    it.add_argument("--origin", type=origin_word, action="append", default=[], metavar="URL",
+                    help="where else browsers open the page, as https://board.example: of a proxy, or with --bind; several, each of them")
+    it.add_argument("--token-file", metavar="FILE", help="the token of the board, in place of UPS_TOKEN; it is not printed then")
+    it.add_argument("--claimed", type=seconds_word, default=3600, metavar="S",
+                    help="names claims that are older than so many seconds (3600)")
     add_listening(it, 11114, "the port that the server has for the watcher (11114)")
     it.add_argument("--every", type=seconds_word, default=5, metavar="S",
                     help="seconds between two queries for all steps when no report comes (5)")

@@ -15,7 +15,7 @@ from ups.elements import Elements, elements_of, first_item, text_in, with_length
 from ups.files import data_sets
 from ups.moments import dt_of
 from ups.terms import (
-    BEGUN, FILTERED, GLOBAL, PERFORMED, PROGRESS, READINESS, SOP_CLASS, SOP_INSTANCE, START, STATE, TRANSACTION, told)
+    BEGUN, ENDED, FILTERED, GLOBAL, PERFORMED, PROGRESS, READINESS, SOP_CLASS, SOP_INSTANCE, START, STATE, TRANSACTION, told)
 
 MOST = 1_048_576  # bytes of a message, and of a step's attributes
 DEEPEST = 8  # levels of nested items
@@ -25,7 +25,7 @@ ANY = ()
 CHECKED: dict[int, Optional[tuple[str, ...]]] = {
     START: None, READINESS: ("INCOMPLETE", "UNAVAILABLE", "READY"), 0x0074_1200: ("HIGH", "MEDIUM", "LOW"), 0x0074_1204: ANY}
 # what a final state needs: a sequence with one item, in which each of these attributes has a text
-NEEDED = {"COMPLETED": (PERFORMED, (BEGUN, 0x0040_4051)), "CANCELED": (PROGRESS, (0x0040_4052,))}
+NEEDED = {"COMPLETED": (PERFORMED, (BEGUN, ENDED)), "CANCELED": (PROGRESS, (0x0040_4052,))}
 Reason = tuple[Optional[int], str]  # no status if the association ends without an answer
 
 

@@ -73,6 +73,16 @@ def addresses_word(word: str) -> list[Network]:
         raise argparse.ArgumentTypeError(f"{word!r} is no address: write it as 10.1.2.3 or 10.1.2.3,10.1.2.0/24") from None
 
 
+def origin_word(word: str) -> str:
+    """Reads the address of a page without its path, as a browser names it as the origin of a request."""
+    found = re.fullmatch(r"(https?)://([\w.-]+|\[[0-9A-Fa-f:.]+\])(?::(\d{1,5}))?/?", word, re.ASCII)
+    if not found:
+        raise argparse.ArgumentTypeError(f"{word!r} is no origin: write it as https://board.example or http://10.1.2.3:8080")
+    kind, host, port = found.groups()
+    is_usual = port is None or (kind, port) in (("http", "80"), ("https", "443"))
+    return f"{kind}://{host.lower()}{'' if is_usual else f':{port_word(port)}'}"
+
+
 def peer_word(word: str) -> tuple[str, str, int]:
     """Reads a watcher as the server's command line names it: its title, host and port."""
     called_title, _, address = word.partition("=")

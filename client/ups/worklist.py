@@ -3,47 +3,37 @@
 from __future__ import annotations
 
 import collections
-import heapq
 import itertools
 import threading
 import time
-from typing import Any, Callable, Iterable, Optional
+from typing import Any, Iterable, Optional
 
-from ups.elements import code_at, elements_of, text_in, value_at
+from ups.day import Day, Row
+from ups.elements import code_at, elements_of, items_of, text_in, value_at
 from ups.moments import moment_of
 from ups.terms import (
-    BEGUN, EVENTS, LABEL, PATIENT, PATIENT_ID, PERFORMED, PERFORMED_AT, PERFORMER, PERFORMERS, PRIORITY, READINESS, START, STATE,
-    STATES, STATION, WORKLIST)
+    BEGUN, BIRTH_DATE, ENDED, EVENTS, LABEL, PATIENT, PATIENT_ID, PERFORMED, PERFORMED_AT, PERFORMER, PERFORMERS, PRIORITY,
+    READINESS, START, STATE, STATES, STATION, WORKLIST)
 
 FINAL = STATES[2:]
-SHOWN = 200  # steps of each state on the page
-LONGEST_WAITS = 5  # steps that wait longest on the page
 LIFE = 100  # kept reports of a step
 SETTLES = 3  # seconds that a report may take before a difference is shown
-ROW = {"state": STATE, "readiness": READINESS, "label": LABEL, "patient": PATIENT, "id": PATIENT_ID, "priority": PRIORITY,
-       "worklist": WORKLIST, "start": START}
-SEARCHED = ("uid", "label", "patient", "id", "station", "worklist", "holder")
-
-Row = dict[str, Any]  # what the page shows of a step
+ROW = {"state": STATE, "readiness": READINESS, "label": LABEL, "patient": PATIENT, "id": PATIENT_ID, "birth": BIRTH_DATE,
+       "priority": PRIORITY, "worklist": WORKLIST, "start": START}
 
 
 def row_of(uid: str, found: bytes) -> Row:
     """Returns what the page shows of a step: texts, by the names that the page uses."""
     elements = elements_of(found)
     row: Row = {"uid": uid, **{word: text_in(elements, tag) or "" for word, tag in ROW.items()}}
-    row["due"], row["begun"] = (moment_of(value_at(found, *path), None) for path in ((START,), (PERFORMED, BEGUN)))
+    for word, path in (("due", (START,)), ("begun", (PERFORMED, BEGUN)), ("ended", (PERFORMED, ENDED))):
+        row[word] = moment_of(value_at(found, *path), None)
     row["station"] = code_at(found, STATION)
-    row["holder"] = code_at(found, PERFORMED, PERFORMED_AT) or value_at(found, PERFORMED, PERFORMERS, PERFORMER) or row["station"]
+    performed_at = code_at(found, PERFORMED, PERFORMED_AT)
+    stations = [code_at(it) for it in items_of(elements.get(STATION, (b"", b""))[1])]
+    row["stations"] = [it for it in dict.fromkeys([*stations, performed_at]) if it]
+    row["holder"] = performed_at or value_at(found, PERFORMED, PERFORMERS, PERFORMER) or row["station"]
     return row
-
-
-def order_of(word: str) -> Callable[[Row], float]:
-    """Returns what orders rows by a number of theirs."""
-    def number(row: Row) -> float:
-        found: float = row[word]
-        return found
-
-    return number
 
 
 class Fold:
@@ -54,7 +44,7 @@ class Fold:
         self.since: Optional[float] = None  # when the report of its state came; None if it had that state before the board
         self.held: Optional[float] = None
         self.came = 0.0
-        self.life: collections.deque[Row] = collections.deque(maxlen=LIFE)
+        self.life: collections.deque[dict[str, Any]] = collections.deque(maxlen=LIFE)
 
 
 def event_text(kind: int, data: bytes) -> str:
@@ -84,10 +74,14 @@ class Worklist:
         self.trouble, self.notice = "The server has not answered yet.", ""
         self.began, self.asked, self.took, self.reported = time.time(), 0.0, 0.0, 0.0
         self.moves = itertools.count(1)
+        self.day = Day()
 
     def judge(self, uid: str) -> None:
-        """Notes whether the two sources agree on a step."""
+        """Notes whether the two sources agree on a step, and what was done of it today."""
         row, fold = self.rows.get(uid), self.folds.get(uid)
+        if row and row["state"] != STATES[0]:
+            told_of = fold if fold and fold.state == row["state"] else Fold()
+            self.day.note(row, told_of.held, told_of.since)
         same = row and fold and (row["state"], row["readiness"]) == (fold.state, fold.readiness)
         if same or not (row or fold):
             self.differing.pop(uid, None)
@@ -158,40 +152,3 @@ class Worklist:
         if uid not in self.differing:
             return "agree"
         return "differ" if time.time() - max(self.differing[uid] + SETTLES, self.reported + 1) > 0 else "waiting"
-
-
-def drawn(worklist: Worklist, row: Row) -> Row:
-    """Returns a step as the page shows it, with what the reports say of it. Its claim began when its performer says so, or else
-    when it was reported."""
-    fold = worklist.folds.get(row["uid"])
-    return {**row, "since": fold and fold.since, "claimed": row["begun"] or fold and fold.held, "mark": worklist.mark(row["uid"])}
-
-
-def longest(worklist: Worklist) -> list[Row]:
-    """Returns the steps that have waited longest: SCHEDULED and READY, with a start that is past."""
-    moment = time.time()
-    waiting = (row for row in worklist.rows.values()
-               if row["state"] == STATES[0] and row["readiness"] == "READY" and (row["due"] or moment) < moment)
-    return heapq.nsmallest(LONGEST_WAITS, waiting, key=order_of("due"))
-
-
-def matches(row: Row, text: str) -> bool:
-    return not text or any(text in row[word].casefold() for word in SEARCHED)
-
-
-def snapshot(worklist: Worklist, text: str) -> Row:
-    """Returns what the page shows: counts, and the newest steps of each state that contain the text."""
-    with worklist.changed:
-        by_state: dict[str, list[Row]] = {state: [] for state in STATES}
-        for row in worklist.rows.values():
-            if matches(row, text):
-                by_state.setdefault(row["state"], []).append(row)
-        newest = {state: heapq.nlargest(SHOWN, rows, key=order_of("moved")) for state, rows in by_state.items()}
-        counts = collections.Counter(row["state"] for row in worklist.rows.values())
-        told_counts = collections.Counter(fold.state for fold in worklist.folds.values())
-        differing = [uid for uid in worklist.differing if worklist.mark(uid) == "differ"]
-        rows = {state: [drawn(worklist, row) for row in rows] for state, rows in newest.items()}
-        return {"version": worklist.version, "trouble": worklist.trouble, "notice": worklist.notice, "began": worklist.began,
-                "asked": worklist.asked, "took": worklist.took, "steps": len(worklist.rows), "told": len(worklist.folds),
-                "counts": counts, "toldCounts": told_counts, "found": {state: len(rows) for state, rows in by_state.items()},
-                "waiting": len(worklist.differing), "differing": differing[:20], "rows": rows, "longest": longest(worklist)}

@@ -4,8 +4,8 @@ const MARKS = {agree: ["=", "worklist and reports agree"], waiting: ["\u2026", "
   differ: ["\u2260", "worklist and reports differ"]};
 const at = id => document.getElementById(id);
 const many = n => n.toLocaleString("en");
-const TOKEN = new URLSearchParams(location.search).get("token") || "";
-let seen = 0, began = 0, chosen = null, chosenMark = "", asking = null, last = null;
+const part = new URLSearchParams(location.search);  /* the token, unless a proxy adds it, and which worklists and stations are shown */
+let seen = 0, drawn = 0, began = 0, chosen = null, chosenMark = "", asking = null, last = null;
 
 function make(name, of, text) {
   const made = document.createElement(name);
@@ -19,17 +19,17 @@ function clock(seconds) {
   return then.toDateString() === new Date().toDateString() ? time : then.toLocaleDateString("en-CA") + " " + time;
 }
 function since(seconds) { return seconds ? clock(seconds) : "before " + clock(began); }
-function age(seconds) {
-  const whole = Math.max(0, Math.floor(Date.now() / 1000 - seconds)), minutes = Math.floor(whole / 60), hours = Math.floor(minutes / 60);
+function age(seconds) { return span(Date.now() / 1000 - seconds); }
+function span(seconds) {
+  const whole = Math.max(0, Math.floor(seconds)), minutes = Math.floor(whole / 60), hours = Math.floor(minutes / 60);
   if (whole < 60) return whole + " s";
   if (minutes < 60) return minutes + " min";
-  return hours < 48 ? `${hours} h ${minutes % 60} min` : `${Math.floor(hours / 24)} d ${hours % 24} h`;
+  return hours < 48 ? `${hours} h` + (minutes % 60 ? ` ${minutes % 60} min` : "") : `${Math.floor(hours / 24)} d ${hours % 24} h`;
 }
-function moment(text) {  /* a DT, as 20240229120000+0100 */
-  const part = text.match(/^(\d{4})(\d\d)(\d\d)(\d\d)?(\d\d)?/);
-  if (!part) return text;
-  const day = part.slice(1, 4).join("-"), today = new Date().toLocaleDateString("en-CA");
-  return [day === today && part[4] ? "" : day, part[4] ? part[4] + ":" + (part[5] || "00") : ""].filter(Boolean).join(" ");
+function startOf(row) {  /* a DT, as 20240229120000+0100, in the time of this browser; without hours, its day */
+  const [, year, month, day, hour] = row.start.match(/^(\d{4})(\d\d)?(\d\d)?(\d\d)?/) || [];
+  if (!hour || row.due === null) return [year, month, day].filter(Boolean).join("-");
+  return clock(row.due).replace(/:\d\d$/, "");
 }
 function setMark(node, mark) {
   put(node, MARKS[mark][0]);
@@ -39,51 +39,66 @@ function setMark(node, mark) {
 }
 
 const columns = new Map(STATES.map((state, number) => {
-  const column = make("section", "column"), head = make("header"), counts = make("div", "counts");
+  const column = make("section", "column"), head = make("header"), of = make("span", "of"), count = make("b", "", "0");
   column.dataset.state = state;
   column.setAttribute("aria-labelledby", "h-" + number);
-  const title = make("h2", "", state);
+  const title = make("h2", "", state), mark = make("span", "mark");
   title.id = "h-" + number;
-  const [listed, mark, told] = [make("div"), make("span", "mark"), make("div")];
-  for (const [box, word] of [[listed, "worklist"], [told, "reports"]]) box.append(make("b", "", "0"), make("span", "", word));
   mark.setAttribute("role", "img");
-  counts.append(listed, mark, told);
-  head.append(title, counts);
+  head.append(title, mark, count, of);
   const list = make("ol"), more = make("p", "more");
   list.setAttribute("aria-label", "Steps that are " + state);
   column.append(head, list, more);
   at("columns").append(column);
-  return [state, {listed: listed.firstChild, told: told.firstChild, mark, list, more, cards: new Map()}];
+  return [state, {count, of, mark, list, more, cards: new Map()}];
 }));
 
 function newCard(uid) {
   const place = make("li"), card = make("button", "card");
   card.type = "button";
   card.dataset.uid = uid;
-  for (const name of ["label", "mark", "patient", "where"]) card.append(make("span", name));
+  for (const name of ["label", "mark", "patient", "who", "where"]) card.append(make("span", name));
   card.children[1].setAttribute("role", "img");
   card.addEventListener("click", () => choose(uid));
   place.append(card);
   return place;
 }
+function nameOf(row) { return row.patient.split("=")[0].replace(/\^+$/, "").replace(/\^+/g, ", "); }
+function bornOf(row) { return row.birth && " born " + row.birth.replace(/^(\d{4})(\d\d)(\d\d)$/, "$1-$2-$3"); }
+function drawWho(node, row) {
+  const words = [row.id || "no patient ID", bornOf(row)];
+  if (node.dataset.words === words.join("\n")) return;
+  node.dataset.words = words.join("\n");
+  node.replaceChildren(make("span", "id", words[0]), make("span", "birth", words[1]));
+}
+function patientOf(row) { return [nameOf(row), row.id].filter(Boolean).join("  \u00b7  ") || "no patient"; }
 function whereOf(row) {
-  if (row.state === "SCHEDULED") return [row.station, moment(row.start)].filter(Boolean).join(", ");
+  if (row.state === "SCHEDULED") {
+    const wait = row.due && row.due < Date.now() / 1000 ? "waits " + age(row.due) : "";
+    return [row.stations.join(", "), startOf(row), wait].filter(Boolean).join(", ");
+  }
   const when = since(row.since), held = row.claimed;
   if (row.state === "IN PROGRESS") return `${row.holder || "held"} since ${since(held)}, ${held ? "" : "over "}${age(held || began)}`;
   return [row.holder, when].filter(Boolean).join(", ");
 }
+function isOld(row) {
+  return row.state === "IN PROGRESS" && Date.now() / 1000 - (row.claimed || began) > last.oldest;
+}
 function fill(place, row) {
-  const card = place.firstChild, [label, mark, patient, where] = card.children;
+  const card = place.firstChild, [label, mark, patient, who, where] = card.children;
   const looks = JSON.stringify([row.label, row.priority, row.readiness]);
   if (label.dataset.looks !== looks) {
     label.dataset.looks = looks;
     label.replaceChildren(make("span", "", row.label));
-    if (row.priority === "HIGH") label.append(make("span", "flag", "HIGH"));
+    if (row.priority === "HIGH") label.append(make("span", "flag urgent", "HIGH"));
     if (row.readiness !== "READY") label.append(make("span", "flag", row.readiness));
   }
   if (mark.dataset.mark !== row.mark) setMark(mark, mark.dataset.mark = row.mark);
-  put(patient, patientOf(row));
+  put(patient, nameOf(row) || "no name");
+  if (patient.title !== row.patient) patient.title = row.patient;
+  drawWho(who, row);
   put(where, whereOf(row));
+  card.classList.toggle("old", isOld(row));
   const pressed = String(row.uid === chosen);
   if (card.getAttribute("aria-pressed") !== pressed) card.setAttribute("aria-pressed", pressed);
 }
@@ -98,11 +113,12 @@ function drawColumn(state, told) {
     fill(place, row);
   }
   const listed = told.counts[state] || 0, reported = told.toldCounts[state] || 0, found = told.found[state] || 0;
-  put(it.listed, many(listed));
-  put(it.told, many(reported));
+  put(it.count, many(found));
+  put(it.of, found < listed ? `of ${many(listed)}` : "");
   setMark(it.mark, listed === reported ? "agree" : told.differing.length ? "differ" : "waiting");
-  put(it.more, found > rows.length ? `${many(rows.length)} newest of ${many(found)}: search for others`
-    : at("find").value && listed ? `${many(found)} of ${many(listed)} found` : "");
+  it.mark.title = `${many(listed)} in the worklist, ${many(reported)} by reports`;
+  it.mark.setAttribute("aria-label", it.mark.title);
+  put(it.more, found > rows.length ? `the first ${many(rows.length)} of ${many(found)}: search for others` : "");
 }
 function drawTop(told) {
   document.title = told.title;
@@ -110,24 +126,47 @@ function drawTop(told) {
   put(at("where"), told.where);
   const kind = told.differing.length ? "differ" : told.waiting || !told.asked ? "waiting" : "agree";
   at("verdict").className = "verdict " + kind;
-  put(at("verdict"), !told.asked ? "The worklist is being asked for"
+  put(at("verdict-words"), !told.asked ? "The worklist is being asked for"
     : kind === "agree" ? `Worklist and reports agree on ${many(told.steps)} steps`
     : kind === "differ" ? `Worklist and reports differ on ${many(told.waiting)} of ${many(told.steps)} steps`
     : `Reports are coming: ${many(told.steps - told.waiting)} of ${many(told.steps)} steps agree`);
+  at("verdict").title = at("verdict-words").textContent;
   const asked = `asked as a whole at ${clock(told.asked)}, in ${many(Math.round(told.took * 1000))} ms`;
   put(at("asked"), told.asked ? asked + (told.notice && "; " + told.notice) : "");
   put(at("trouble"), told.trouble);
   at("trouble").hidden = !told.trouble;
 }
-function patientOf(row) {
-  return [row.patient.replace(/\^+$/, "").replace(/\^/g, ", "), row.id].filter(Boolean).join("  \u00b7  ") || "no patient";
+function drawDay(told) {
+  const facts = [["done today", many(told.day.COMPLETED)], ["canceled today", many(told.day.CANCELED)],
+    ["median wait", told.wait === null ? "-" : span(told.wait)], [`held over ${span(told.oldest)}`, many(told.oldCount)]];
+  if (at("day").children.length !== facts.length) {
+    at("day").replaceChildren(...facts.map(() => {
+      const fact = make("div");
+      fact.append(make("dt"), make("dd"));
+      return fact;
+    }));
+  }
+  facts.forEach(([name, value], place) => {
+    put(at("day").children[place].firstChild, name);
+    put(at("day").children[place].lastChild, value);
+  });
+  at("day").lastChild.classList.toggle("late", told.oldCount > 0);
 }
-function drawLongest(told) {
-  at("longest").hidden = !told.longest.length;
-  const list = at("longest").querySelector("ol");
-  if (list.dataset.uids !== told.longest.map(row => row.uid).join()) {
-    list.dataset.uids = told.longest.map(row => row.uid).join();
-    list.replaceChildren(...told.longest.map(row => {
+function drawChoice(id, all, words) {
+  const chosenWord = part.get(id) || "", node = at(id);
+  if (node.dataset.words !== words.join("\n")) {
+    node.dataset.words = words.join("\n");
+    node.replaceChildren(new Option(all, ""), ...words.map(word => new Option(word, word)));
+  }
+  if (node.value !== chosenWord) node.value = chosenWord;
+  node.classList.toggle("set", Boolean(chosenWord));
+}
+function drawAlarm(id, rows, text) {
+  const section = at(id), list = section.querySelector("ol"), uids = rows.map(row => row.uid).join();
+  section.hidden = !rows.length;
+  if (list.dataset.uids !== uids) {
+    list.dataset.uids = uids;
+    list.replaceChildren(...rows.map(row => {
       const place = make("li"), button = make("button");
       button.type = "button";
       button.addEventListener("click", () => choose(row.uid));
@@ -135,14 +174,23 @@ function drawLongest(told) {
       return place;
     }));
   }
-  told.longest.forEach((row, place) => put(list.children[place].firstChild, `${age(row.due)}: ${row.label}, ${patientOf(row)}`));
+  rows.forEach((row, place) => put(list.children[place].firstChild, text(row)));
+}
+function drawAlarms(told) {
+  drawAlarm("longest", told.longest, row => `${age(row.due)}: ${row.label}, ${patientOf(row)}`);
+  drawAlarm("old", told.old, row => `${row.claimed ? "" : "over "}${age(row.claimed || began)}: ${row.label}, ${row.holder || "nobody says where"}`);
 }
 function drawAges() {
   if (!last) return;
-  drawLongest(last);
-  for (const row of last.rows["IN PROGRESS"] || []) {
-    const place = columns.get("IN PROGRESS").cards.get(row.uid);
-    if (place) put(place.firstChild.lastChild, whereOf(row));
+  drawAlarms(last);
+  for (const state of ["SCHEDULED", "IN PROGRESS"]) {
+    for (const row of last.rows[state] || []) {
+      const place = columns.get(state).cards.get(row.uid);
+      if (place) {
+        put(place.firstChild.lastChild, whereOf(row));
+        place.firstChild.classList.toggle("old", isOld(row));
+      }
+    }
   }
 }
 function draw(told) {
@@ -150,8 +198,12 @@ function draw(told) {
   if (!told.rows) return;
   began = told.began;
   last = told;
+  drawn = Date.now();
   drawTop(told);
-  drawLongest(told);
+  drawDay(told);
+  drawAlarms(told);
+  drawChoice("worklist", "All worklists", told.worklists);
+  drawChoice("station", "All stations", told.stations);
   for (const state of STATES) drawColumn(state, told);
   document.body.dataset.version = told.version;
   const row = chosen && STATES.flatMap(state => told.rows[state] || []).find(row => row.uid === chosen);
@@ -178,6 +230,7 @@ function heldText(step) {
 }
 function showStep(step) {
   put(at("d-label"), step.row ? step.row.label : "A step");
+  put(at("d-patient"), step.row ? patientOf(step.row) + bornOf(step.row).replace(/^ /, "  \u00b7  ") : "");
   put(at("d-uid"), step.uid);
   put(at("held"), heldText(step));
   const told = step.told, row = step.row || {state: "", readiness: ""};
@@ -198,10 +251,15 @@ function showStep(step) {
   }));
   at("detail").hidden = false;
 }
+function query(words) {
+  const all = new URLSearchParams(part);
+  for (const [name, word] of Object.entries(words)) all.set(name, word);
+  return all;
+}
 async function showChosen() {
   const uid = chosen;
   try {
-    const step = await (await fetch("/step?" + new URLSearchParams({token: TOKEN, uid}))).json();
+    const step = await (await fetch("step?" + query({uid}))).json();
     if (uid === chosen && step.uid) showStep(step);
   } catch (fault) { /* the next poll tells it */ }
 }
@@ -216,10 +274,10 @@ document.addEventListener("keydown", event => { if (event.key === "Escape" && ch
 
 async function poll() {
   asking = new AbortController();
+  if (Date.now() - drawn > 30000) seen = 0;  /* also without a change waits and claims grow old */
   let pause = 150;
   try {
-    const words = new URLSearchParams({token: TOKEN, seen, find: at("find").value});
-    draw(await (await fetch("/state?" + words, {signal: asking.signal})).json());
+    draw(await (await fetch("state?" + query({seen, find: at("find").value}), {signal: asking.signal})).json());
   } catch (fault) {
     if (fault.name !== "AbortError") {
       put(at("trouble"), "The board does not answer: is it still running?");
@@ -230,10 +288,18 @@ async function poll() {
   }
   setTimeout(poll, pause);
 }
+function ask() { seen = 0; asking.abort(); }
 let typing = 0;
 at("find").addEventListener("input", () => {
   clearTimeout(typing);
-  typing = setTimeout(() => { seen = 0; asking.abort(); }, 120);
+  typing = setTimeout(ask, 120);
 });
+for (const id of ["worklist", "station"]) {
+  at(id).addEventListener("change", () => {
+    if (at(id).value) part.set(id, at(id).value); else part.delete(id);
+    history.replaceState(null, "", "?" + part);
+    ask();
+  });
+}
 setInterval(drawAges, 1000);
 poll();
