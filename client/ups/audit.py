@@ -17,6 +17,8 @@ from ups.faults import Refused
 BEGINS = re.compile(r"run (\d+) begins with (\d+) requests")
 COMPACTED = re.compile(r"compacted from (\d+) requests to (\d+)(, in .*)?")
 COMMITTED = re.compile(r"entries=.* run=(\d+) committed=(\d+)\b.*")
+# what a server says once it serves: neither a look of --check nor a start that is refused does
+LISTENS = re.compile(r"\[INFO  upsd\] [ -~]{1,16} listens on \S+ with \d+ workers")
 ENDED = re.compile(r"\S+\.service: (?:Deactivated successfully|Failed with result '(.*)')\.")
 NOTED = 100_000  # audit lines that are kept until it is known that what they tell is in the store
 
@@ -42,7 +44,9 @@ class Trail:
         if ended := ENDED.fullmatch(line.text):
             return [activity_message(line, self.server, ("110121", "Application Stop"), ended[1])]
         if line.text.startswith("[INFO  upsd] upsd "):
-            return self.start(line)
+            self.forget(line)
+        if LISTENS.fullmatch(line.text):
+            return [activity_message(line, self.server, ("110120", "Application Start"))]
         if begins := BEGINS.fullmatch(line.said):
             return self.begin(int(begins[1]), int(begins[2]))
         self.follow(line.said)
@@ -61,13 +65,12 @@ class Trail:
         self.noted.append(line)
         return line
 
-    def start(self, line: LogLine) -> list[str]:
-        """Notes that a server starts. One without a store knows nothing of what was before."""
+    def forget(self, line: LogLine) -> None:
+        """Notes the first line of a program. A server without a store knows nothing of what was before."""
         if line.said.endswith(" store=none"):
             self.run, self.removed, self.found = None, 0, None
             self.noted.clear()
             self.held.clear()
-        return [activity_message(line, self.server, ("110120", "Application Start"))]
 
     def begin(self, run: int, requests: int) -> list[str]:
         """Returns the messages of what was told before this run and isn't in the store, if the log has each run since."""
