@@ -69,6 +69,7 @@ TIMEOUT = 10  # seconds: after which a silent association makes way
 PATIENCE = 180  # seconds for which a working peer waits at most, longer than the limit so that its time can be reported
 SHORT, LONG = 4, 14  # the limits if nobody waits
 SLACK = 1.0
+APART = 0.1  # seconds between two associations, so that the first one is silent longest
 TENURE, LATEST = 20, 30  # seconds for which an association keeps its worker while one peer waits, and by which that is served
 PAUSES = 0.9, 9.0, 0.2  # seconds between two bytes, and between two requests
 OTHER = "127.0.0.2"  # another address of this machine
@@ -270,7 +271,10 @@ def share_trial(program: list[str], results: Results) -> None:
     with Server(program, "--associations", "4") as server:
         first = Caller(server.port, 3 * TIMEOUT, source=OTHER)
         time.sleep(2 * SLACK)
-        others = [Caller(server.port, 3 * TIMEOUT) for _ in range(3)]
+        others = []
+        for _ in range(3):
+            others.append(Caller(server.port, 3 * TIMEOUT))
+            time.sleep(APART)
         waited = served(server.port, 2 * TIMEOUT, 1)
         results.tell("a peer behind an address with most workers", None if waited else f"it is not served within {2 * TIMEOUT} s")
         results.tell("an address with most workers makes way, A-ABORT", heard(others[0]))
