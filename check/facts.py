@@ -14,6 +14,11 @@ their help states, and those of the sources. Each `ups COMMAND --option` in the 
 and options of this command; an option without a command, in a page for users, is one of the client or of the program. The
 implementation version name is the same in sources, specs and statement.
 
+The table of formats in the guide to operating has each format of the store, by its number from 1 to that of the sources, with the
+version that first wrote it: versions don't fall, none is later than that of the program, and the first has a store in rows/stores.
+The changelog has a heading for each of them and for the version of the program, and no line "Upgrade:" before its first heading.
+The failure statuses of each operation, which are numbers for a monitor from the start, are those of the table in the statement.
+
 A paragraph and a cell of a table have at most PARAGRAPH and CELL letters without marks, docs (without pictures) and README.md at
 most DOCS and README bytes; CONTRIBUTING.md says so with these numbers.
 
@@ -53,17 +58,18 @@ CONSTANTS = {
     "keep": ("ups_settings", "KEEP"), "offset": ("ups_settings", "OFFSET"),
     "max_workers": ("ups_peers", "MAX_WORKERS"), "workers": ("ups_peers", "WORKERS"),
     "idle": ("ups_peers", "IDLE"), "timeout": ("ups_peers", "TIMEOUT"), "delivery_timeout": ("ups_peers", "DELIVERY_TIMEOUT"),
+    "waiting": ("ups_peers", "WAITING"),
     "max_compact_at": ("ups_peers", "MAX_COMPACT_AT"), "compact_at": ("ups_peers", "COMPACT_AT"),
     "version": ("ups_args", "VERSION"), "address": ("ups_args", "LOOPBACK"),
     "short": ("ups_transport", "QUICK_OPENING"), "crowd": ("ups_net", "CROWD"), "group": ("ups_ledger", "MOST"),
     "longest_pdu": ("ups_pdu", "MAX_DATA_LENGTH"), "longest_message": ("ups_assoc", "LONGEST_MESSAGE"),
     "max_depth": ("ups_dataset", "MAX_DEPTH"), "max_row_bytes": ("ups_life", "MAX_ROW_BYTES"),
     "max_history": ("ups_life", "MAX_HISTORY"), "max_peers": ("ups_life", "MAX_PEERS"),
-    "peers_file": ("upsd", "MAX_SIZE"),
+    "peers_file": ("upsd", "MAX_SIZE"), "store_format": ("ups_store", "VERSION"),
     "min_offset": ("ups_life", "MIN_OFFSET"), "max_offset": ("ups_life", "MAX_OFFSET"),
 }
 OPTIONS = {"keep": "keep", "offset": "offset", "associations": "workers", "idle": "idle", "timeout": "timeout",
-           "delivery-timeout": "delivery_timeout", "compact-at": "compact_at", "bind": "address"}  # the fact that is the default of each option
+           "delivery-timeout": "delivery_timeout", "waiting": "waiting", "compact-at": "compact_at", "bind": "address"}  # the fact that is the default of each option
 STATUS_FILE = "crates/ups_cycle/src/status.rt"
 MAN_PAGE = "packaging/man/upsd.8"
 CLIENT = "examples/ups.py"
@@ -74,6 +80,15 @@ VERSION_NAMES = {  # where the implementation version name stands, and how
     "crates/ups_assoc/src/negotiating.rt": r'b"(UPSD_[^"]*)"', "crates/ups_assoc/specs/Negotiation.antt": r'codes "(UPSD_[^"]*)"',
     "docs/use/conformance.md": r"\| implementation version name \| (UPSD_\w*)",
 }
+FORMATS_PAGE, CHANGELOG, KINDS_FILE, STATEMENT = "docs/use/operating.md", "CHANGELOG.md", "crates/ups_log/src/kinds.rt", "docs/use/conformance.md"
+FORMAT = re.compile(r"(?m)^\| (\d+) \| (\d+\.\d+\.\d+) \|")  # in the page: a format of the store, and the version that first wrote it
+HEADING = re.compile(r"(?m)^## (\d+\.\d+\.\d+) ")  # in the changelog
+OPERATIONS = {  # the kinds of requests that the log counts, and how the statement names each: the operation, and its type
+    "Create": ("N-CREATE", ""), "Get": ("N-GET", ""), "Set": ("N-SET", ""), "Change": ("N-ACTION", "1"), "Cancel": ("N-ACTION", "2"),
+    "Subscribe": ("N-ACTION", "3"), "Unsubscribe": ("N-ACTION", "4"), "Suspend": ("N-ACTION", "5"), "Action": ("N-ACTION", "6"),
+    "Find": ("C-FIND", ""), "Echo": ("C-ECHO", ""),
+}
+TOLD = re.compile(r"(?m)^\| <!--=status-->([0-9A-F]{4}) \| \w+ \| ([^|]+) \|")  # in the statement: a status, and what has it
 DOCUMENTS = (".md", ".8")
 PENDING = 0xFF00
 MARK = re.compile(r"<!--=(\w+)-->")
@@ -93,7 +108,7 @@ def texts() -> Texts:
     """Returns the texts of the files that are compared."""
     crates = sorted({crate for crate, _ in CONSTANTS.values()} | {"ups_cycle"})
     forms = ["*.md", "*/README.md", "docs/**/*.md", "examples/**/*.py", MAN_PAGE, *VERSION_NAMES]
-    forms += [f"crates/{it}/src/**/*.rt" for it in crates]
+    forms += [KINDS_FILE, *(f"crates/{it}/src/**/*.rt" for it in crates)]
     found = {}
     for path in sorted(path for form in forms for path in glob.glob(form, root_dir=HERE, recursive=True)):
         with open(os.path.join(HERE, path), encoding="utf-8") as opened:
@@ -315,6 +330,51 @@ def faults_of_version_names(files: Texts) -> Iterator[str]:
             yield f"{path}: the implementation version name is {found}, and {first} in {next(iter(told))}"
 
 
+def faults_of_formats(files: Texts, values: dict[str, Value]) -> Iterator[str]:
+    """Yields the faults of the table of formats, and of the headings of the changelog."""
+    told, changes = FORMAT.findall(files.get(FORMATS_PAGE, "")), files.get(CHANGELOG, "")
+    wanted = [str(it + 1) for it in range(int(values.get("store_format", 0)))]
+    if [number for number, _ in told] != wanted:
+        yield f"{FORMATS_PAGE}: the formats of the store are {[number for number, _ in told]}, and {wanted} in the sources"
+    versions = [*(it for _, it in told), str(values.get("version"))]
+    parts = [[int(part) if part.isdigit() else -1 for part in it.split(".")] for it in versions]
+    if parts != sorted(parts):
+        yield f"{FORMATS_PAGE}: the versions that first wrote a format are {versions[:-1]}, and the program's is {versions[-1]}"
+    if told and not os.path.isdir(os.path.join(HERE, "rows/stores", told[0][1])):
+        yield f"{FORMATS_PAGE}: rows/stores has no store of version {told[0][1]}"
+    headed = HEADING.findall(changes)
+    yield from (f"{CHANGELOG}: no heading for the version {it}" for it in sorted({*versions} - {*headed}))
+    first = HEADING.search(changes)
+    if "Upgrade:" in HEADING.split(changes)[0].partition("a line \"Upgrade:\"")[2] or not first:
+        yield f"{CHANGELOG}: a line \"Upgrade:\" stands before the first version"
+
+
+def has_status(named: str, operation: str, kind: str) -> bool:
+    """Returns whether an operation of a type has a status, by the cell of the statement that names what has it: all, all but some, or
+    some, each perhaps with its types."""
+    if named.startswith("all"):
+        return operation not in named.partition(" but ")[2].split(", ")
+    for it in re.findall(r"[NC]-[A-Z]+(?: \d(?: to \d)?(?:, \d\b)*)?", named):
+        word, _, types = it.partition(" ")
+        first, _, last = types.partition(" to ")
+        among = [str(it) for it in range(int(first), int(last) + 1)] if last else types.split(", ")
+        if word == operation and (not types or kind in among):
+            return True
+    return False
+
+
+def faults_of_kinds(files: Texts) -> Iterator[str]:
+    """Yields each operation whose failure statuses, as the log counts them, are not those of the statement."""
+    told = [(int(code, 16), named.strip()) for code, named in TOLD.findall(files.get(STATEMENT, ""))]
+    failures = [(code, named) for code, named in told if 1 < code < 0xB000 or 0xBFFF < code < 0xFE00]
+    for name, (operation, kind) in OPERATIONS.items():
+        found = re.search(rf"RequestKind::{name} => &\[([^\]]*)\]", files.get(KINDS_FILE, ""))
+        counted = {int(it, 16) for it in re.findall(r"0x(\w{4})", found[1])} if found else set()
+        wanted = {code for code, named in failures if has_status(named, operation, kind)}
+        for code in sorted(counted ^ wanted):
+            yield f"{KINDS_FILE}: {name} {'has' if code in counted else 'lacks'} the status {code:04X}, and {STATEMENT} says otherwise"
+
+
 def paragraphs_in(text: str) -> Iterator[tuple[int, str]]:
     """Yields the paragraphs of a page: the line of each, and its text without marks. Code is none, an item of a list is one."""
     lines, at, is_code = [], 0, False
@@ -354,6 +414,7 @@ def faults(files: Texts) -> set[str]:
     codes = codes_of(files)
     found |= {*faults_of_marks(files, values), *faults_of_statuses(files, codes), *faults_of_help(files, values)}
     found |= {*faults_of_man_page(files), *faults_of_client(files, codes, values), *faults_of_version_names(files)}
+    found |= {*faults_of_formats(files, values), *faults_of_kinds(files)}
     found |= {*faults_of_docstrings(files, values), *faults_of_layout(files), *faults_of_calls(files)}
     return found if codes else found | {f"{STATUS_FILE}: no codes"}
 
@@ -417,6 +478,11 @@ def spoiled(files: Texts) -> Iterator[tuple[str, str, str]]:
             yield f"{name} of the client", path, re.sub(*change, text, count=1)
         for name, change in IN_MAN_PAGE.items() if path == MAN_PAGE else ():
             yield f"{name} of the man page", path, re.sub(*change, text, count=1)
+    for what, path, change in (("a format", FORMATS_PAGE, (r"(?m)^\| 2 \| 0", "| 4 | 0")), ("the version of a format", FORMATS_PAGE, (r"(?m)^\| 2 \| \d", "| 2 | 9")),
+                               ("a heading", CHANGELOG, (HEADING.pattern, "## ")), ("the first version", FORMATS_PAGE, (r"(?m)^\| 1 \| 0\.2", "| 1 | 0.1")),
+                               ("an upgrade", CHANGELOG, (r"\n## ", "\n- Upgrade: now.\n\n## ")), ("a status of an operation", KINDS_FILE, ("0xC309", "0xC308")),
+                               ("what has a status", STATEMENT, (r"\| N-CREATE, N-SET \|", "| N-CREATE |"))):
+        yield f"{what} of {path}", path, re.sub(*change, files[path], count=1)
     for path in VERSION_NAMES:
         yield f"the version name of {path}", path, re.sub(VERSION_NAMES[path], lambda it: it[0].replace(it[1], "UPSD_9"), files[path])
         yield f"the missing version name of {path}", path, re.sub(VERSION_NAMES[path], "", files[path])

@@ -85,7 +85,7 @@ except ImportError:
     sys.exit(3 if "--nagios" in sys.argv or sys.argv[1:2] == ["health"] else 2)
 
 NAME = os.path.basename(sys.argv[0]) or "ups"
-VERSION = "0.2.0"
+VERSION = "0.3.0"
 
 VERIFICATION = "1.2.840.10008.1.1"
 PUSH = "1.2.840.10008.5.1.4.34.6.1"
@@ -1897,12 +1897,22 @@ def announce(asked: argparse.Namespace) -> int:
     return worst
 
 
-# the audit lines of a server's log, as audit messages (PS3.15 section A.5)
+# a server's log as audit messages (PS3.15 section A.5): its audit lines, refusals, starts and stops
 
-# a line as `upsd` writes it, or as `journalctl -o short-iso` shows it
-AUDITED = re.compile(r"(\d{4}-\d\d-\d\dT[\d:]{8}(?:\.\d+)?)(Z|[+-]\d\d:?\d\d) (?:(\S+) \S+: )?\[INFO  upsd\] audit: (.*)", re.ASCII)
-DONE = re.compile(r"([A-Z][a-z]+) #\d+ ([ -~]{1,16}) (\[[0-9A-Fa-f:.%]+\]|[0-9.]+):\d+, ([0-9.]+|-), ([0-9A-F]{4})(?:, (.*))?")
-SWEPT = re.compile(r"Sweep [ -~]{1,16}, (\d+) steps")
+# a line as `upsd` writes it, or as `journalctl -o short-iso` shows it; there the lines of systemd say when the server ends
+LOGGED = re.compile(r"(\d{4}-\d\d-\d\dT[\d:]{8}(?:\.\d+)?)(Z|[+-]\d\d:?\d\d) (?:(\S+) [^\s:]+: )?"
+                    r"(\[(?:INFO |WARN ) upsd\] .*|upsd(?:@\S+)?\.service: .*)", re.ASCII)
+SAID = re.compile(r"\[(?:INFO |WARN ) upsd\] (?:audit|serve|store|upsd [0-9.]+(?:, commit [0-9a-f]+, [a-z]+ proved)?): (.*)")
+CALLER = r"#\d+ ([ -~]{1,16}) (\[[0-9A-Fa-f:.%]+\]|[0-9.]+):\d+"
+DONE = re.compile(rf"([A-Z][a-z]+) {CALLER}, ([0-9.]+|-), ([0-9A-F]{{4}})(?:, (?!at \d+\Z)(.*?))?(?:, at (\d+))?")
+SWEPT = re.compile(r"Sweep [ -~]{1,16}, (\d+) steps(?:, at (\d+))?")
+REFUSED = re.compile(rf"([A-Za-z-]+) {CALLER}(?:, ([0-9.]+))?, ([0-9A-F]{{4}})")
+MORE_REFUSED = re.compile(r"(\d+ more requests) of (?:others|([ -~]{1,16}) ([0-9A-Fa-f:.%]+)) (were refused in the last minute)")
+BEGINS = re.compile(r"run (\d+) begins with (\d+) requests")
+COMPACTED = re.compile(r"compacted from (\d+) requests to (\d+)(, in .*)?")
+COMMITTED = re.compile(r"entries=.* run=(\d+) committed=(\d+)\b.*")
+ENDED = re.compile(r"\S+\.service: (?:Deactivated successfully|Failed with result '(.*)')\.")
+NOTED = 100_000  # audit lines that are kept until it is known that what they tell is in the store
 TAGGED = re.compile(r"\(([0-9A-F]{4}),([0-9A-F]{4})\)")
 OWN = "99UPSD"  # the coding scheme of what DICOM has no code for
 # the action code of each operation (PS3.15 section A.5.1), and its name
@@ -1911,35 +1921,76 @@ OPERATIONS = {
     "Subscribe": ("U", "Subscribe to Receive UPS Event Reports"), "Unsubscribe": ("U", "Unsubscribe from Receiving UPS Event Reports"),
     "Suspend": ("U", "Suspend Global Subscription"), "Get": ("R", "N-GET"), "Find": ("E", "C-FIND"), "Sweep": ("D", "Sweep"),
 }
+REFUSED_AS = {"N-CREATE": "Create", "N-SET": "Set", "N-GET": "Get", "C-FIND": "Find"}  # the names of requests in a refusal
+GRANTED, IN_PART, REFUSAL = "0", "4", "8"  # outcomes: success; a minor failure, done without the deletion lock; not done
 
 
 class Audited(NamedTuple):
-    """An audit line: when, on which machine, which operation, who from where, on which instance, the status, and what was done."""
+    """What a line tells of a request: when, on which machine, which operation, who from where, on which instance, the status, what
+    was done, the number of accepted requests behind the answer, its outcome, and a description of that."""
 
     moment: str
     machine: Optional[str]
     name: str
-    title: Optional[str]
-    address: str
-    instance: str
-    status: int
-    done: str
+    title: Optional[str] = None
+    address: str = ""
+    instance: str = "-"
+    status: int = 0
+    done: str = ""
+    number: Optional[int] = None
+    outcome: str = GRANTED
+    description: str = ""
+    is_held: bool = False  # of a request to cancel: an earlier line says that the step is IN PROGRESS
 
 
-def audited_of(line: str) -> Optional[Audited]:
-    """Reads a line of a log; None if it is no audit line. A title never hides the fields behind it: the longest one counts."""
-    found = AUDITED.fullmatch(line)
+class LogLine(NamedTuple):
+    """A line of a log: when, on which machine, its text as it stands behind the time, and without its level and its kind."""
+
+    moment: str
+    machine: Optional[str]
+    text: str
+    said: str
+
+
+def logged_of(line: str) -> Optional[LogLine]:
+    """Reads a line of a log; None if it is none of `upsd` at the level INFO or WARN, nor of its unit."""
+    found = LOGGED.fullmatch(line)
     if not found:
         return None
-    time_of_day, offset, machine, said = found.groups()
+    time_of_day, offset, machine, text = found.groups()
     moment = time_of_day + (offset if offset == "Z" or ":" in offset else f"{offset[:3]}:{offset[3:]}")
-    if swept := SWEPT.fullmatch(said):
-        return Audited(moment, machine, "Sweep", None, "", "-", 0, swept[1])
-    done = DONE.fullmatch(said)
+    said = SAID.fullmatch(text)
+    return LogLine(moment, machine, text, said[1] if said else "")
+
+
+def number_of(text: Optional[str]) -> Optional[int]:
+    return None if text is None else int(text)
+
+
+def audited_of(line: LogLine) -> Audited:
+    """Reads an audit line. A title never hides the fields behind it: the longest one counts."""
+    if swept := SWEPT.fullmatch(line.said):
+        return Audited(line.moment, line.machine, "Sweep", done=swept[1], number=number_of(swept[2]))
+    done = DONE.fullmatch(line.said)
     if not done or done[1] not in OPERATIONS:
-        raise Refused(f"this audit line can't be read: {line}")
-    name, caller, address, instance, status, more = done.groups()
-    return Audited(moment, machine, name, caller, address.strip("[]"), instance, int(status, 16), more or "")
+        raise Refused(f"this audit line can't be read: {' '.join(filter(None, (line.moment, line.machine, line.text)))}")
+    name, caller, address, instance, status, more, number = done.groups()
+    code = int(status, 16)
+    return Audited(line.moment, line.machine, name, caller, address.strip("[]"), instance, code, more or "", number_of(number),
+                   GRANTED if code in (0x0000, 0x0001) else IN_PART, told(code) if code else "")
+
+
+def refusal_of(line: LogLine) -> Optional[Audited]:
+    """Reads a warning of a refused request, or of how many more were refused; None if it is another line."""
+    if more := MORE_REFUSED.fullmatch(line.said):
+        return Audited(line.moment, line.machine, "Refusals", more[2], more[3] or "", outcome=REFUSAL, description=f"{more[1]} {more[4]}")
+    refused = REFUSED.fullmatch(line.said)
+    if not refused:
+        return None
+    name, caller, address, instance, status = refused.groups()
+    code = int(status, 16)
+    return Audited(line.moment, line.machine, REFUSED_AS.get(name, name), caller, address.strip("[]"), instance or "-", code,
+                   outcome=REFUSAL, description=told(code))
 
 
 def add_code(to: ElementTree.Element, name: str, code: str, scheme: str, meaning: str) -> None:
@@ -1947,15 +1998,14 @@ def add_code(to: ElementTree.Element, name: str, code: str, scheme: str, meaning
 
 
 def add_event(to: ElementTree.Element, line: Audited) -> None:
-    action, name = OPERATIONS[line.name]
-    outcome = "0" if line.status in (0x0000, 0x0001) else "4"  # a minor failure: done without the deletion lock
+    action, name = OPERATIONS.get(line.name, ("E", line.name))
     event = ElementTree.SubElement(to, "EventIdentification", {
-        "EventActionCode": action, "EventDateTime": line.moment, "EventOutcomeIndicator": outcome})
+        "EventActionCode": action, "EventDateTime": line.moment, "EventOutcomeIndicator": line.outcome})
     code, meaning = ("110112", "Query") if line.name == "Find" else ("110103", "DICOM Instances Accessed")
     add_code(event, "EventID", code, "DCM", meaning)
     add_code(event, "EventTypeCode", line.name, OWN, name)
-    if line.status:
-        ElementTree.SubElement(event, "EventOutcomeDescription").text = told(line.status)
+    if line.description:
+        ElementTree.SubElement(event, "EventOutcomeDescription").text = line.description
 
 
 def add_participant(to: ElementTree.Element, entity: str, requests: bool, role: tuple[str, str], place: tuple[str, str]) -> None:
@@ -1969,18 +2019,22 @@ def add_participant(to: ElementTree.Element, entity: str, requests: bool, role: 
 def details_of(line: Audited) -> list[tuple[str, str]]:
     """Returns what a line says of the change, with a name for each part."""
     words, _, receiver = line.done.partition("for ")
-    if line.name == "Change":
+    details: list[tuple[str, str]] = []
+    if line.name == "Change" and line.done:
         before, _, after = line.done.partition(" to ")
-        return [("Former Procedure Step State", before), ("Procedure Step State", after)]
-    if line.name == "Cancel":
-        return [("Requested Procedure Step State", line.done.removeprefix("asks for "))]
-    if line.name == "Set":
-        return [("Attributes", line.done.removeprefix("sets").strip())]
-    if line.name == "Subscribe":
-        return [("Receiving AE", receiver), ("Deletion Lock", "TRUE" if words else "FALSE")]
-    if line.name in ("Unsubscribe", "Suspend"):
-        return [("Receiving AE", receiver)]
-    return [("Answers", line.done.partition(" ")[0])] if line.name == "Find" else []
+        details = [("Former Procedure Step State", before), ("Procedure Step State", after)]
+    elif line.name == "Cancel" and line.done:
+        details = [("Requested Procedure Step State", line.done.removeprefix("asks for "))]
+        details += [("Procedure Step State", "IN PROGRESS")] if line.is_held else []
+    elif line.name == "Set" and line.done:
+        details = [("Attributes", line.done.removeprefix("sets").strip())]
+    elif line.name == "Subscribe" and line.done:
+        details = [("Receiving AE", receiver), ("Deletion Lock", "TRUE" if words else "FALSE")]
+    elif line.name in ("Unsubscribe", "Suspend") and line.done:
+        details = [("Receiving AE", receiver)]
+    elif line.name == "Find" and line.done:
+        details = [("Answers", line.done.partition(" ")[0])]
+    return details + ([] if line.number is None else [("Accepted Requests", str(line.number))])
 
 
 def in_base64(content: bytes) -> str:
@@ -2011,45 +2065,137 @@ def add_object(to: ElementTree.Element, line: Audited) -> None:
         add_code(it, "ParticipantObjectIDTypeCode", "110181", "DCM", "SOP Class UID")
     else:
         add_code(it, "ParticipantObjectIDTypeCode", "SOP Instance UID", OWN, "SOP Instance UID")
-    if line.name == "Find":
+    if line.name == "Find" and line.done:
         add_query(it, line)
         return
     ElementTree.SubElement(it, "ParticipantObjectName").text = "Unified Procedure Step"
     add_details(it, details_of(line))
-    steps = ElementTree.SubElement(it, "SOPClass", {"UID": PUSH, "NumberOfInstances": line.done if is_class else "1"})
+    steps = ElementTree.SubElement(it, "SOPClass", {"UID": PUSH, "NumberOfInstances": line.done or "0" if is_class else "1"})
     if not is_class:
         ElementTree.SubElement(steps, "Instance", {"UID": line.instance})
 
 
+def add_source(to: ElementTree.Element, server: str) -> None:
+    source = ElementTree.SubElement(to, "AuditSourceIdentification", {"AuditSourceID": server})
+    ElementTree.SubElement(source, "AuditSourceTypeCode", {"csd-code": "4"})  # an application server
+
+
 def audit_message(line: Audited, server: str) -> str:
-    """Returns an audit line of a server as an audit message in one line, of the event Query, or else DICOM Instances Accessed."""
+    """Returns what a line of a server tells of a request as an audit message in one line, of the event Query, or else DICOM
+    Instances Accessed."""
     message = ElementTree.Element("AuditMessage")
     add_event(message, line)
     if line.title is not None:
         add_participant(message, line.title, True, ("110153", "Source Role ID"), (line.address, "2"))
     add_participant(message, server, line.title is None, ("110152", "Destination Role ID"), (line.machine or "", "1"))
-    source = ElementTree.SubElement(message, "AuditSourceIdentification", {"AuditSourceID": server})
-    ElementTree.SubElement(source, "AuditSourceTypeCode", {"csd-code": "4"})  # an application server
+    add_source(message, server)
     add_object(message, line)
     return ElementTree.tostring(message, encoding="unicode")
+
+
+def activity_message(line: LogLine, server: str, kind: tuple[str, str], fault: Optional[str] = None) -> str:
+    """Returns the start or the end of a server as an audit message in one line, of the event Application Activity."""
+    message = ElementTree.Element("AuditMessage")
+    event = ElementTree.SubElement(message, "EventIdentification", {
+        "EventActionCode": "E", "EventDateTime": line.moment, "EventOutcomeIndicator": REFUSAL if fault else GRANTED})
+    add_code(event, "EventID", "110100", "DCM", "Application Activity")
+    add_code(event, "EventTypeCode", kind[0], "DCM", kind[1])
+    if fault:
+        ElementTree.SubElement(event, "EventOutcomeDescription").text = fault
+    add_participant(message, server, False, ("110150", "Application"), (line.machine or "", "1"))
+    add_source(message, server)
+    return ElementTree.tostring(message, encoding="unicode")
+
+
+class Trail:
+    """What the lines of a log have told so far, in order: what has to be in the store at the next start, and who holds a step."""
+
+    def __init__(self, server: str) -> None:
+        self.server = server
+        self.run: Optional[int] = None  # the last run of the store, compactions among them
+        self.removed = 0  # how many requests compactions have removed since that run began: a number in the store is less by these
+        self.found: Optional[int] = None  # how many requests a start has found in the store, if it then compacts it
+        self.noted: collections.deque[Audited] = collections.deque(maxlen=NOTED)
+        self.held: dict[str, int] = {}  # the number at which each step IN PROGRESS was claimed
+
+    def take(self, line: LogLine) -> list[str]:
+        """Returns the messages that a line makes."""
+        if line.text.startswith("[INFO  upsd] audit: "):
+            return [audit_message(self.note(audited_of(line)), self.server)]
+        if line.text.startswith("[WARN  upsd] serve: "):
+            refused = refusal_of(line)
+            return [audit_message(refused, self.server)] if refused else []
+        if ended := ENDED.fullmatch(line.text):
+            return [activity_message(line, self.server, ("110121", "Application Stop"), ended[1])]
+        if line.text.startswith("[INFO  upsd] upsd "):
+            return self.start(line)
+        if begins := BEGINS.fullmatch(line.said):
+            return self.begin(int(begins[1]), int(begins[2]))
+        self.follow(line.said)
+        return []
+
+    def note(self, line: Audited) -> Audited:
+        """Keeps what a line tells until it is known to be in the store; tells of a request to cancel whether the step is held."""
+        if line.number is None:
+            return line
+        if line.name == "Cancel" and line.status == 0:
+            line = line._replace(is_held=self.held.get(line.instance, line.number) < line.number)
+        if line.name == "Change" and line.done.endswith("to IN PROGRESS"):
+            self.held[line.instance] = line.number
+        elif line.name == "Change":
+            self.held.pop(line.instance, None)
+        self.noted.append(line)
+        return line
+
+    def start(self, line: LogLine) -> list[str]:
+        """Notes that a server starts. One without a store knows nothing of what was before."""
+        if line.said.endswith(" store=none"):
+            self.run, self.removed, self.found = None, 0, None
+            self.noted.clear()
+            self.held.clear()
+        return [activity_message(line, self.server, ("110120", "Application Start"))]
+
+    def begin(self, run: int, requests: int) -> list[str]:
+        """Returns the messages of what was told before this run and isn't in the store, if the log has each run since."""
+        kept = (requests if self.found is None else self.found) + self.removed
+        is_next = self.run == run - 1
+        lost = [it for it in self.noted if it.number is not None and it.number > kept] if is_next else []
+        self.held = {it: 0 for it, number in self.held.items() if is_next and number <= kept}
+        self.run, self.removed, self.found = run, 0, None
+        self.noted.clear()
+        why = f"not kept: run {run} begins with {requests} requests"
+        return [audit_message(it._replace(outcome=REFUSAL, description=why), self.server) for it in lost]
+
+    def follow(self, said: str) -> None:
+        """Notes a compaction, and how much is in the store."""
+        if compacted := COMPACTED.fullmatch(said):
+            if compacted[3] is None:
+                self.found = int(compacted[1])
+            elif self.run is not None:
+                self.run, self.removed = self.run + 1, self.removed + int(compacted[1]) - int(compacted[2])
+        elif committed := COMMITTED.fullmatch(said):
+            while self.noted and (self.noted[0].number or 0) <= int(committed[2]):
+                self.noted.popleft()
 
 
 def audit(asked: argparse.Namespace) -> int:
     """Prints the audit messages of a log, each as soon as its line is read; returns 1 if an audit line can't be read."""
     worst = 0
+    trail = Trail(asked.called)
     with contextlib.ExitStack() as opened:
         log = sys.stdin
         if asked.file != "-":
             log = opened.enter_context(open(asked.file, encoding="utf-8", errors="backslashreplace"))
         for line in log:
+            logged = logged_of(line.rstrip("\n"))
             try:
-                found = audited_of(line.rstrip("\n"))
+                messages = trail.take(logged) if logged else []
             except Refused as fault:
                 print(f"{NAME}: {fault}", file=sys.stderr, flush=True)
                 worst = 1
             else:
-                if found:
-                    print(audit_message(found, asked.called), flush=True)
+                for message in messages:
+                    print(message, flush=True)
     return worst
 
 
@@ -3017,7 +3163,7 @@ def add_questions(to: Commands) -> None:
     it.add_argument("--set", action="store_true", help="judges it as an N-SET instead, whatever the state of the step")
     it.add_argument("--final", choices=["COMPLETED", "CANCELED"],
                     help="judges whether a step has what this final state asks for instead")
-    it = to.add("audit", audit, "prints the audit lines of a server's log as audit messages (PS3.15 A.5), each a line of XML",
+    it = to.add("audit", audit, "prints a server's audit lines, refusals, starts and stops as audit messages (PS3.15 A.5), a line each",
                 "audit /var/log/upsd.log")
     it.add_argument("file", metavar="FILE", help="the log, with its times, or what journalctl -o short-iso prints (- for standard input)")
 

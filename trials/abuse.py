@@ -27,9 +27,9 @@ Then come the crowds: 200 peers of one kind at the same time, on a server of the
     storm               connections that are closed at once, half of them with a reset, as fast as 8 threads make them
 
 First all kinds come at the same time, each to a server of its own with 4 workers. The peers are served in order, 4 at a
-time, and each is cut off at its limit; so a working peer after all of them is served within 52 limits, and one beside the
-storm, which retries if it can't connect, within 2. The last thing that a peer of `opens, never asks` or `slow sender` hears
-before it is cut off is an A-ABORT of the service provider; for each kind but the storm, the log names the limit. Then they
+time, and make way after half a second; so a working peer after all of them is served within 40 seconds, and one beside the
+storm, which retries if it can't connect, within 2 limits. The last thing that a peer of `opens, never asks` or `slow sender`
+hears before it is cut off is an A-ABORT of the service provider; for each kind but the storm, the log says why. Then they
 come, twice, to servers with a worker for each of them and 4 more, one kind after the other: 4 working peers beside them are
 served at the same time within 2 limits.
 
@@ -71,7 +71,7 @@ QUEUE = 10  # the time limit of the server that silent peers crowd
 MEMORY = 100_000_000
 CROWD = 200
 SHORT = 2  # the limits of a server that a crowd attacks
-BEHIND = (CROWD // WORKERS + 2) * SHORT  # how long a peer that comes after a crowd may wait
+BEHIND = 40  # seconds that a peer that comes after a crowd may wait: half a second for each four of them, and a look at the door
 LEFT = 15 * SHORT  # how long the connections of a crowd that is gone may remain
 PACE = 0.35 * SHORT  # seconds between two bytes of a slow sender: none comes just as a limit ends
 STEPS, FEW_STEPS = 50, 20  # of 10 KB each, that a peer asks for, and a peer of a crowd
@@ -513,10 +513,10 @@ def tell_gone(server, results, name, before, growth):
 
 
 KINDS = (
-    ("opens, never asks", opens_alone, "Idle", True),
-    ("half open", goes_away, "Idle", False),
-    ("slow sender", sends_slowly, "Timeout", True),
-    ("empty fragments", sends_nothing, "Timeout", False),
+    ("opens, never asks", opens_alone, "MadeWay", True),
+    ("half open", goes_away, "MadeWay", False),
+    ("slow sender", sends_slowly, "MadeWay", True),
+    ("empty fragments", sends_nothing, "MadeWay", False),
     ("asks, never reads", never_reads, "Timeout", False),
     ("slow taker", takes_slowly, "Timeout", False),
     ("storm", None, None, False),

@@ -3,13 +3,17 @@
 
     trials/audit.py [PROGRAM]      (default: crates/upsd/out/upsd)
 
-Two clients ask for each operation, and some are refused: each that is accepted has to have one audit line, with who asked and the
-change, in order, and each that is refused its line at the level WARN and no other. No line may have a value of the steps that
-names a patient, and without --audit there is none. A client that is refused beyond the limit on lines loses no audit line, and a
-sweep has a line. 2,000 creations over four associations at a time have as many lines.
+Two clients ask for each operation, and some are refused: each that is accepted has to have one audit line, with who asked, the
+change and its number, in order, and each that is refused its line at the level WARN and no other. No line may have a value of the
+steps that names a patient, and without --audit there is none. A client that is refused beyond the limit on lines loses no audit
+line, and a sweep has a line. 2,000 creations over four associations at a time have as many lines, whose numbers are 1 to 2,000.
 
-`ups audit` reads the log, and the same lines as the journal shows them: each audit line is an audit message in one line, whose
-elements and attributes are those of the schema of PS3.15 section A.5.1, in its order, and whose content is compared.
+Association requests come in two segments, cut anywhere, with a title of somebody else in their reserved bytes: each line has the
+title that the store has. A store that takes nothing any more loses a creation whose line was written.
+
+`ups audit` reads the log, and the same lines as the journal shows them: each audit line, refusal, start and stop is an audit
+message in one line, whose elements and attributes are those of the schema of PS3.15 section A.5.1, in its order, and whose content
+is compared. What was not kept at the next start is told as a failure.
 
 It installs pydicom if it is missing, prints a line for each check, and then `N passed, M failed`. The status is 1 if any failed.
 """
@@ -20,20 +24,23 @@ import base64
 import dataclasses
 import os
 import re
+import resource
 import subprocess
 import sys
+import tempfile
 import threading
+import time
 from typing import Optional
 from xml.etree import ElementTree
 
 sys.path.insert(0, os.path.join(os.path.dirname(os.path.dirname(os.path.abspath(__file__))), "check/lib"))
-from dicom import act, find, get
+from dicom import Contexts, act, associate, create, find, get
 from ledger import CANCELED, COMPLETED, IN_PROGRESS, LABEL, SOP_INSTANCE
-from machine import HERE, arguments, holds, install
+from machine import HERE, arguments, holds, install, pid_of
 from peer import FILTERED, GLOBAL, PULL_ON, PUSH_ON, WATCH_ON, told
 from results import Results
 from server import Server
-from stored import Client, a_step_of, performed
+from stored import SECONDS, Client, Stored, a_step_of, performed, rows_of
 
 CLIENT = [sys.executable, os.path.join(HERE, "examples/ups.py"), "audit"]
 A, B, C = b"1.2.3.1", b"1.2.3.2", b"1.2.3.3"
@@ -41,6 +48,11 @@ HOLDER = b"2.25.7"
 NAMES = ("DOE", "JANE", "P-4711", "19700101", "F-LABEL", "ILL")  # values of the steps and of requests on them
 LIMIT = 20.0  # seconds for lines to come
 MOST = 64  # tags in a line
+KEEP = 5  # seconds for which finished steps are kept: longer than the clients take
+RESERVED = 42  # the offset of the reserved bytes behind the titles of an association request (PS3.8 table 9-11)
+APART = 0.3  # seconds between two segments
+NUMBER = re.compile(r", at (\d+)$")
+READS = ("Find", "Get")
 TIME = re.compile(r"\d{4}-\d\d-\d\dT\d\d:\d\d:\d\dZ ")
 PUSH = "1.2.840.10008.5.1.4.34.6.1"
 UIDS = {"GLOBAL": GLOBAL.decode(), "FILTERED": FILTERED.decode()}
@@ -74,7 +86,8 @@ Details = dict[str, str]
 
 @dataclasses.dataclass
 class Asked:
-    """A request, the status that it has to get, and what its audit line and message have to say if it is accepted."""
+    """A request, the status that it has to get, and what its audit line and message have to say if it is accepted, with the number
+    of accepted changes behind the answer."""
 
     name: str
     instance: str
@@ -83,9 +96,14 @@ class Asked:
     done: str = ""
     action: str = "U"
     details: Details = dataclasses.field(default_factory=dict)
+    number: int = 0
+
+    @property
+    def is_refused(self) -> bool:
+        return self.status >= 0x0100 and self.status & 0xF000 != 0xB000
 
     def line(self, place: str) -> str:
-        return f"audit: {self.name} {place}, {self.instance}, {self.status:04X}{self.done and ', '}{self.done}"
+        return f"audit: {self.name} {place}, {self.instance}, {self.status:04X}{self.done and ', '}{self.done}, at {self.number}"
 
     def refusal(self, place: str) -> str:
         named = {"Create": "N-CREATE", "Set": "N-SET", "Get": "N-GET", "Find": "C-FIND"}.get(self.name, self.name)
@@ -171,13 +189,29 @@ def ask_as_performer(it: Caller) -> None:
         changed("Change", A, it.change(A, COMPLETED, HOLDER), "IN PROGRESS", "COMPLETED"),
         changed("Change", A, it.change(A, COMPLETED, HOLDER), "", "", 0xB306),
         changed("Change", B, it.change(B, IN_PROGRESS, HOLDER), "SCHEDULED", "IN PROGRESS"),
-        Asked("Cancel", B.decode(), it.cancel(B), done="asks for CANCELED", details={"Requested Procedure Step State": "CANCELED"}),
+        Asked("Cancel", B.decode(), it.cancel(B), done="asks for CANCELED",
+              details={"Requested Procedure Step State": "CANCELED", "Procedure Step State": "IN PROGRESS"}),
         set_of(B, it.set(B, performed(2), HOLDER), "(0008,1195)", "(0074,1002)", "(0074,1204)", "(0074,1216)"),
         changed("Change", B, it.change(B, CANCELED, HOLDER), "IN PROGRESS", "CANCELED"),
     ]
 
 
 DONE = (0x0000, 0x0001, 0xB301)
+
+
+def number(callers: list[Caller]) -> int:
+    """Gives each accepted request of clients that ask one after the other its number: of a change its own, and of a query or an N-GET
+    how many changes were accepted before it. Returns how many there were."""
+    accepted = 0
+    for it in callers:
+        for asked in it.asked:
+            accepted += asked.status in DONE and asked.name not in READS
+            asked.number = accepted
+    return accepted
+
+
+def numbers_in(lines: list[str]) -> list[int]:
+    return [int(found[1]) for it in lines if (found := NUMBER.search(it))]
 
 
 def messages_in(log: list[str], words: str) -> list[str]:
@@ -202,7 +236,7 @@ def compare_lines(log: list[str], callers: list[Caller], results: Results) -> No
         wanted = [asked.line(it.place) for asked in it.asked if asked.status in DONE]
         results.tell(f"what {it.title} was granted has a line each", differing(found, wanted))
         refused = [line for line in log if f" {it.place}, " in line and "[WARN  upsd]" in line]
-        wanted = [asked.refusal(it.place) for asked in it.asked if asked.status >= 0x0100 and asked.status & 0xF000 != 0xB000]
+        wanted = [asked.refusal(it.place) for asked in it.asked if asked.is_refused]
         results.tell(f"what {it.title} was refused has a warning each", differing(messages_in(refused, "serve: "), wanted))
     named = [line for line in log if any(name in line for name in NAMES)]
     results.tell("no line names a patient", f"{named[:2]}" if named else None)
@@ -239,15 +273,17 @@ def at(message: ElementTree.Element, path: str, attribute: str) -> Optional[str]
 
 
 def differs(message: ElementTree.Element, asked: Asked, caller: Caller, machine: Optional[str]) -> Optional[str]:
-    """Returns how an audit message differs from an accepted request, or None."""
+    """Returns how an audit message differs from a request that was accepted or refused, or None."""
     is_query = asked.name == "Find"
     step = message.find("ParticipantObjectIdentification")
     assert step is not None
     event = "EventIdentification"
     details = {"TransferSyntax": "1.2.840.10008.1.2", "Answers": "3"} if is_query else asked.details
+    details = {} if asked.is_refused else {**details, "Accepted Requests": str(asked.number)}
+    outcome = "8" if asked.is_refused else "4" if asked.status else "0"
     pairs = [
         (at(message, f"{event}/EventID", "csd-code"), "110112" if is_query else "110103"),
-        (at(message, event, "EventActionCode"), asked.action), (at(message, event, "EventOutcomeIndicator"), "4" if asked.status else "0"),
+        (at(message, event, "EventActionCode"), asked.action), (at(message, event, "EventOutcomeIndicator"), outcome),
         (at(message, f"{event}/EventTypeCode", "csd-code"), asked.name),
         ([it.get("UserID") for it in message.findall("ActiveParticipant")], [caller.title, "UPSD"]),
         ([it.get("csd-code") for it in message.findall("ActiveParticipant/RoleIDCode")], ["110153", "110152"]),
@@ -270,7 +306,7 @@ def compare_messages(lines: list[str], callers: list[Caller], machine: Optional[
     named = "of the journal" if machine else "of the log"
     ran = subprocess.run([*CLIENT, "-"], input="\n".join(lines) + "\n", capture_output=True, text=True, timeout=LIMIT, check=False)
     results.tell(f"ups audit reads the lines {named}", f"status {ran.returncode}: {ran.stderr[-200:]}" if ran.returncode or ran.stderr else None)
-    count = sum("audit: " in line for line in lines)
+    count = sum(any(it in line for it in ("audit: ", "[WARN  upsd] serve: ", "] upsd ", "Deactivated")) for line in lines)
     messages = [ElementTree.fromstring(line) for line in ran.stdout.splitlines()]
     results.tell(f"each line {named} is a message", None if len(messages) == count else f"{len(messages)} of {count}")
     fault = next((fault for it in messages if (fault := fault_in(it))), None)
@@ -279,36 +315,44 @@ def compare_messages(lines: list[str], callers: list[Caller], machine: Optional[
     results.tell(f"no message {named} names a patient", f"{told_of}" if told_of else None)
     for it in callers:
         mine = [message for message in messages if at(message, "ActiveParticipant", "UserID") == it.title]
-        granted = [asked for asked in it.asked if asked.status in DONE]
-        fault = None if len(mine) == len(granted) else f"{len(mine)} messages and not {len(granted)}"
-        for message, asked in zip(mine, granted):
+        told_of_it = [asked for asked in it.asked if asked.status in DONE or asked.is_refused]
+        fault = None if len(mine) == len(told_of_it) else f"{len(mine)} messages and not {len(told_of_it)}"
+        for message, asked in zip(mine, told_of_it):
             fault = fault or differs(message, asked, it, machine)
         results.tell(f"the messages {named} say what {it.title} did", fault)
     swept = [it for it in messages if at(it, "EventIdentification", "EventActionCode") == "D"]
     numbers = [at(it, "ParticipantObjectIdentification/SOPClass", "NumberOfInstances") for it in swept]
     results.tell(f"a message {named} says how many steps were removed", None if sum(int(it or 0) for it in numbers) == 3 else f"{numbers}")
+    kinds = [at(it, "EventIdentification/EventTypeCode", "csd-code") for it in messages
+             if at(it, "EventIdentification/EventID", "csd-code") == "110100"]
+    wanted = ["110120", "110121"] if machine else ["110120"]
+    results.tell(f"a message {named} says when the server started, and when it ended", None if kinds == wanted else f"{kinds}")
 
 
 def as_of_journal(lines: list[str]) -> list[str]:
-    """Returns the lines as `journalctl -o short-iso` shows them."""
-    return [TIME.sub("2026-11-27T09:30:00+0100 ris upsd[4711]: ", line) for line in lines]
+    """Returns the lines as `journalctl -o short-iso` shows them, with that of systemd about the end."""
+    told_so = [TIME.sub("2026-11-27T09:30:00+0100 ris upsd[4711]: ", line) for line in lines]
+    return [*told_so, "2026-11-27T09:31:00+0100 ris systemd[1]: upsd.service: Deactivated successfully."]
 
 
 def trial_of_operations(program: list[str], results: Results) -> None:
-    options = ["--audit", "--keep", "1", "W1=127.0.0.1:9,lock", "W 2=127.0.0.1:9"]
+    options = ["--audit", "--keep", str(KEEP), "W1=127.0.0.1:9,lock", "W 2=127.0.0.1:9"]
     with Server(program, *options) as server:
         callers = [Caller(server, b"RIS", 1), Caller(server, b"PERFORM, 1.2:3", 2)]
         scheduler, performer = callers
         ask_as_scheduler(scheduler)
         ask_as_performer(performer)
-        is_swept = holds(lambda: sum(int(it) for line in server.log for it in re.findall(r"audit: Sweep UPSD, (\d+) steps$", line)) == 3, LIMIT)
+        is_swept = holds(lambda: sum(int(it) for line in server.log for it in re.findall(r"audit: Sweep UPSD, (\d+) steps,", line)) == 3, LIMIT)
         results.tell("sweeps have lines", None if is_swept else f"{messages_in(server.log, 'audit: Sweep')}")
         log = list(server.log)
+    accepted = number(callers)
+    swept = numbers_in(messages_in(log, "audit: Sweep"))
+    results.tell("sweeps have the numbers behind them",
+                 None if swept and swept == [accepted + 1 + at_ for at_ in range(len(swept))] else f"{swept} behind {accepted}")
     results.tell("the first line has the option", None if "verbose=false audit=true" in log[0] else log[0])
     compare_lines(log, callers, results)
-    audited = [line for line in log if "audit: " in line]
     compare_messages(log, callers, None, results)
-    compare_messages(as_of_journal(audited), callers, "ris", results)
+    compare_messages(as_of_journal(log), callers, "ris", results)
 
 
 def trial_without_lines(program: list[str], results: Results) -> None:
@@ -346,15 +390,82 @@ def trial_of_many(program: list[str], results: Results) -> None:
         for it in threads:
             it.join()
         holds(lambda: len(messages_in(server.log, "audit: Create ")) == 2000, LIMIT)
-        found = len(set(messages_in(server.log, "audit: Create ")))
-    results.tell("2,000 creations have as many lines", None if found == 2000 else f"{found}")
+        found = messages_in(server.log, "audit: Create ")
+    results.tell("2,000 creations have as many lines", None if len(set(found)) == 2000 else f"{len(set(found))}")
+    results.tell("their numbers are 1 to 2,000", None if sorted(numbers_in(found)) == list(range(1, 2001)) else f"{len(numbers_in(found))} numbers")
+
+
+class Cut(Client):
+    """A client whose association request comes in two segments, and has some bytes where its content is reserved."""
+
+    def __init__(self, port: int, title: bytes, cut: int, reserved: bytes) -> None:
+        self.cut, self.reserved = cut, reserved
+        super().__init__(port, title)
+
+    def associate(self, contexts: Contexts, title: bytes = b"BENCH") -> None:
+        request = associate(contexts, title)
+        request = request[:RESERVED] + self.reserved.ljust(32) + request[RESERVED + 32:]
+        self.socket.sendall(request[:self.cut])
+        time.sleep(APART)
+        self.socket.sendall(request[self.cut:])
+        assert self.pdu()[0] == 2, "the association is not accepted"
+
+
+# a title, where its association request is cut, and what stands in the reserved bytes: cut behind byte 7, the rest begins with 01 as
+# an association request does (the protocol version), and these bytes stand where its title would
+CUTS = [(b"FIRST", 1, b""), (b"EVIL", 7, b"CT1"), (b"HEADER", 6, b"CT1"), (b"TITLE", 30, b"CT1"), (b"LAST", 41, b"CT1"), (b"WHOLE", 42, b"CT1")]
+
+
+def trial_of_titles(program: list[str], results: Results) -> None:
+    """Compares the title in each line of an association with the one that the store has."""
+    with tempfile.TemporaryDirectory() as folder:
+        file = os.path.join(folder, "upsd.db")
+        with Stored(program, file, "--audit") as server:
+            for at_, (title, cut, reserved) in enumerate(CUTS):
+                it = Cut(server.port, title, cut, reserved)
+                it.create(b"1.2.5.%d" % at_, of_step(A))
+                it.create(b"1.2.5.%d" % at_, of_step(A))
+                it.release()
+            holds(lambda: len(messages_in(server.log, "serve: Released ")) == len(CUTS), LIMIT)
+            log = list(server.log)
+        titles = [str(row[2]) for row in rows_of(file)]
+    for at_, (title, cut, _) in enumerate(CUTS):
+        found = [line.partition("] ")[2] for line in log if f" #{at_ + 1} " in line]
+        wanted = [f"audit: Create #{at_ + 1} {titles[at_]} ", f"serve: N-CREATE #{at_ + 1} {titles[at_]} ",
+                  f"serve: Released #{at_ + 1} {titles[at_]} "]
+        is_right = titles[at_] == title.decode() and len(found) == 3 and all(map(str.startswith, found, wanted))
+        results.tell(f"a request cut behind byte {cut} has the title of the store", None if is_right else f"{titles[at_]}: {found}")
+
+
+def trial_of_what_is_lost(program: list[str], results: Results) -> None:
+    """Has a store take nothing more, and ends its server: `ups audit` tells of the creation that was not kept."""
+    ignoring = ["sh", "-c", 'trap "" XFSZ; exec "$0" "$@"', *program]  # a write beyond the limit fails, and ends no program
+    with tempfile.TemporaryDirectory() as folder:
+        file = os.path.join(folder, "upsd.db")
+        with Stored(ignoring, file, "--audit") as server:
+            it = Client(server.port, b"RIS", SECONDS)
+            for uid in (A, B):
+                assert it.create(uid, of_step(uid)) == 0
+            resource.prlimit(pid_of(server.process), resource.RLIMIT_FSIZE, (0, 0))
+            it.socket.sendall(create(PUSH_ON, it.next(), C, of_step(C)))
+            is_told = holds(lambda: numbers_in(messages_in(server.log, "audit: Create ")) == [1, 2, 3], LIMIT)
+            results.tell("a creation that is not kept has a line", None if is_told else f"{messages_in(server.log, 'audit: ')}")
+            log = list(server.log)
+        with Stored(program, file, "--audit") as server:
+            holds(lambda: messages_in(server.log, "store: run 2 begins"), LIMIT)
+            log += list(server.log)
+    ran = subprocess.run([*CLIENT, "-"], input="\n".join(log) + "\n", capture_output=True, text=True, timeout=LIMIT, check=False)
+    messages = [ElementTree.fromstring(line) for line in ran.stdout.splitlines()]
+    lost = [at(message, "ParticipantObjectIdentification", "ParticipantObjectID") for message in messages
+            if "not kept" in message.findtext("EventIdentification/EventOutcomeDescription", "")]
+    results.tell("ups audit says that it was not kept, and nothing else", None if lost == [C.decode()] else f"{lost}: {ran.stderr[-200:]}")
 
 
 def main() -> None:
     program = [os.path.abspath(arguments(__doc__ or "").program)]
     install({})
     results = Results()
-    for trial in (trial_of_operations, trial_without_lines, trial_of_refusals, trial_of_many):
+    for trial in (trial_of_operations, trial_without_lines, trial_of_refusals, trial_of_many, trial_of_titles, trial_of_what_is_lost):
         trial(program, results)
     results.end()
 

@@ -5,8 +5,8 @@
 
 A look at a right command line ends with status 0, prints no port, serves nothing, and logs the settings, and for each watcher
 whether its host has an address; it may change neither the store nor its log. A wrong command line ends with status 1; an address
-of another machine, and a store that a start would refuse, with status 2. A store that a server has is not read, and the server
-goes on. A file of peers has to count like the words of the command line; a file that can't be read, and a line that is no peer,
+of another machine, and a store that a start would refuse, with status 2. Beside a running server it has to refuse what the start
+behind it would refuse: terms that permit less than that server's, and another port that is taken; and the server goes on. A file of peers has to count like the words of the command line; a file that can't be read, and a line that is no peer,
 have to be told, with status 1.
 
 It prints a line for each check, and then `N passed, M failed`. The status is 1 if any failed.
@@ -16,14 +16,17 @@ from __future__ import annotations
 
 import os
 import re
+import shutil
+import socket
 import subprocess
 import sys
 import tempfile
 import time
 from typing import Optional
 
-sys.path[:0] = [os.path.join(os.path.dirname(os.path.dirname(os.path.abspath(__file__))), it) for it in ("check/lib", "trials")]
-from machine import arguments, listens
+sys.path[:0] = [os.path.join(os.path.dirname(os.path.dirname(os.path.abspath(__file__))), it) for it in ("check/lib", "check", "trials")]
+from machine import arguments, holds, listens
+from making import EARLIER, ITS_SETTINGS
 from results import Results
 from server import Server
 from stored import Client, Stored, a_step_of
@@ -77,7 +80,7 @@ def content(file: str) -> tuple[Optional[bytes], Optional[bytes]]:
 
 def try_words(trial: Trial) -> None:
     """Looks at command lines without a store."""
-    trial.ends("a right command line", 0, r"INFO .*upsd [\d.]+: ae=UPSD .* peers=0 watchers=0 store=none", *SERVE)
+    trial.ends("a right command line", 0, r"INFO .*upsd [\d.]+, commit [0-9a-f]+, [a-z]+ proved: ae=UPSD .* peers=0 watchers=0 store=none", *SERVE)
     trial.ends("a watcher has an address", 0, r"INFO .*watcher W1: localhost is (127\.0\.0\.1|\[::1\]):104", *SERVE, "W1=localhost:104")
     trial.ends("an address is one", 0, r"INFO .*watcher W1: ::1 is \[::1\]:104", *SERVE, "W1=::1:104")
     trial.ends("a watcher has none", 0, rf"WARN .*watcher W2: {NOWHERE} has no address", *SERVE, "W1=localhost:104", f"W2={NOWHERE}:104")
@@ -116,25 +119,90 @@ def try_stores(trial: Trial) -> None:
 def try_used(trial: Trial) -> None:
     """Looks at a store that a server has, and had."""
     store = trial.path("store")
-    peers = ("W1=localhost:104,lock",)
+    peers = ("W1=localhost:104,lock", "W2=localhost:105")
+    here = (*SERVE, "--store", store)
     with Stored(trial.program, store, "--keep", "60", *peers) as server:
         client = Client(server.port)
         client.create(b"1.2.3.1", a_step_of(b"P"))
-        trial.ends("a store that a server has", 0, "INFO .*store: it is in use", *SERVE, "--store", store, *peers)
+        try_beside(trial, store, peers)
         again = client.create(b"1.2.3.2", a_step_of(b"P"))
-        trial.results.tell("which goes on", None if again == 0 else f"{again:04X}")
+        trial.results.tell("and the server goes on", None if again == 0 else f"{again:04X}")
     before = content(store)
-    trial.ends("a store that nobody has", 0, "INFO .*store: it can be used", *SERVE, "--store", store, *peers)
-    trial.ends("with one peer more", 0, "INFO .*store: it can be used", *SERVE, "--store", store, *peers, "W2=localhost:105")
-    trial.ends("with another --keep", 2, "upsd: the store .*terms of the service are not those of the last run", *SERVE, "--store", store,
-               "--keep", "61", *peers)
-    trial.ends("without a peer", 2, "upsd: the store .*terms of the service are not those of the last run", *SERVE, "--store", store)
-    trial.ends("which is allowed", 0, "WARN .*store: the terms of the service", *SERVE, "--store", store, "--store-other-settings")
+    trial.ends("a store that nobody has", 0, "INFO .*store: it can be used", *here, *peers)
+    trial.ends("with one peer more", 0, "INFO .*store: it can be used", *here, *peers, "W3=localhost:106")
+    trial.ends("with another --keep", 2, OTHERS, *here, "--keep", "61", *peers)
+    trial.ends("without a peer", 2, OTHERS, *here)
+    trial.ends("which is allowed", 0, "WARN .*store: the terms of the service", *here, "--store-other-settings")
     trial.results.tell("no look changes it", None if content(store) == before else "it does")
     with Stored(trial.program, store, *peers) as server:
         found = [Client(server.port).got(it) is not None for it in (b"1.2.3.1", b"1.2.3.2")]
         begins = server.lines("store: run 2 begins with 2 requests")
         trial.results.tell("a start finds all, and is the second run", None if all(found) and begins else f"{found}, {server.log[-3:]}")
+
+
+OTHERS = r"upsd: the store .*terms of the service are not those of the last run: .+ \(--store-other-settings takes the new ones\)"
+
+
+def try_beside(trial: Trial, store: str, peers: tuple[str, ...]) -> None:
+    """Looks at a store while a server has it, with terms that permit as much, and with others."""
+    here, terms = (*SERVE, "--store", store), f"{store}-terms"
+    trial.ends("beside a server, what it has", 0, "INFO .*store: it is in use", *here, *peers)
+    trial.ends("beside it, one peer more", 0, "INFO .*store: it is in use", *here, *peers, "W3=localhost:106")
+    trial.ends("beside it, one right more", 0, "INFO .*store: it is in use", *here, peers[0], f"{peers[1]},lock")
+    trial.ends("beside it, other addresses", 0, "INFO .*store: it is in use", *here, "W1=localhost:1,lock", "W2=localhost:2")
+    for name, words, told in (("another --keep", ("--keep", "61", *peers), "kept for 60 seconds"), ("another --offset", ("--offset", "60", *peers), "0 minutes"),
+                              ("a peer less", peers[:1], "W2 was a peer"), ("a right less", ("W1=localhost:104", peers[1]), "W1 had the right")):
+        trial.ends(f"beside it, {name}", 2, OTHERS, *here, *words)
+        trial.ends(f"beside it, {name}, which is told", 2, told, *here, *words)
+    trial.ends("beside it, other terms that are allowed", 0, "WARN .*store: the terms of the service", *here, "--keep", "61", *peers, "--store-other-settings")
+    mode = os.stat(terms).st_mode & 0o777
+    trial.results.tell("its terms are for the owner alone", None if mode == 0o600 else f"{mode:o}")
+    kept = open(terms, "rb").read()
+    for name, text in (("damaged", b"port=x\n"), ("empty", b""), ("cut", kept[:-1])):
+        trial.file("store-terms", text)
+        trial.ends(f"beside it, {name} terms", 2, "upsd: the store .*terms", *here, *peers)
+    os.remove(terms)
+    trial.ends("beside it, no terms", 2, "upsd: the store .*another process uses it, and its terms can't be read", *here, *peers)
+    os.symlink(trial.file("elsewhere", kept), terms)
+    trial.ends("beside it, a link", 2, "upsd: the store .*it is not what a server writes", *here, *peers)
+    os.remove(terms)
+    trial.file("store-terms", kept)
+    trial.ends("beside it, its terms again", 0, "INFO .*store: it is in use", *here, *peers)
+
+
+def free_port() -> int:
+    with socket.socket() as found:
+        found.bind(("127.0.0.1", 0))
+        return int(found.getsockname()[1])
+
+
+def try_ports(trial: Trial) -> None:
+    """Looks at ports beside a server that listens on one; starts a server with links in the place of its terms; and starts one on
+    a port that is taken, which may not touch the store."""
+    store, port = trial.path("ported"), free_port()
+    made = trial.run("init", store)
+    trial.results.tell("a store is made", made.stderr or None)
+    victim = trial.file("victim", b"kept")
+    os.symlink(victim, f"{store}-terms")
+    os.symlink(victim, f"{store}-terms.new")
+    words = ("serve", "--ae", "UPSD", "--bind", "127.0.0.1", "--store", store)
+    with subprocess.Popen([*trial.program, *words, "--port", str(port)], stderr=subprocess.DEVNULL) as server, socket.socket() as other:
+        other.bind(("127.0.0.1", 0))
+        other.listen()
+        taken = other.getsockname()[1]
+        holds(lambda: listens(port), SECONDS)
+        is_own = not os.path.islink(f"{store}-terms") and not os.path.lexists(f"{store}-terms.new")
+        trial.results.tell("no link is followed", None if is_own and open(victim, "rb").read() == b"kept" else "one is")
+        trial.ends("beside it, its own port", 0, "INFO", *words, "--check", "--port", str(port))
+        trial.ends("beside it, a free port", 0, "INFO", *words, "--check", "--port", str(free_port()))
+        trial.ends("beside it, a port that is taken", 2, f"upsd: it can't listen on 127.0.0.1, port {taken}", *words, "--check", "--port", str(taken))
+        server.kill()
+        server.wait()
+        shutil.copyfile(EARLIER, store)
+        os.remove(f"{store}-wal")
+        before = content(store)
+        trial.ends("a start on a port that is taken", 2, f"upsd: it can't listen on 127.0.0.1, port {taken}", *words, "--port", str(taken), *ITS_SETTINGS)
+        trial.results.tell("leaves a store of an earlier format as it was", None if content(store) == before else "it does not")
 
 
 def try_files(trial: Trial) -> None:
@@ -188,7 +256,7 @@ def main() -> None:
     asked = arguments(__doc__ or "")
     with tempfile.TemporaryDirectory() as folder:
         trial = Trial(asked.program.split(), folder)
-        for each in (try_words, try_stores, try_used, try_files, try_wrong_files):
+        for each in (try_words, try_stores, try_used, try_ports, try_files, try_wrong_files):
             each(trial)
     trial.results.end()
 

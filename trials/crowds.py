@@ -1,22 +1,34 @@
 #!/usr/bin/env python3
-"""Measures how long a working peer of `upsd serve` waits after 200 others that have begun something and don't go on.
+"""Measures how long a working peer of `upsd serve` waits behind 200 others that have begun something and don't go on.
 
-    trials/crowds.py [PROGRAM..] [--limit 15]      (default: crates/upsd/out/upsd)
+    trials/crowds.py [PROGRAM..] [--limit 30]      (default: crates/upsd/out/upsd)
 
-200 peers come at the same time to a server of 16 workers with `--timeout 10`, and
+200 peers come at the same time to a server of 16 workers with the default limits, and
 
     half a header     send three bytes of an association request, and nothing more
     all but a byte    send an association request without its last byte, and nothing more
     associates        ask for an association, and nothing more
     inside a message  ask for an association, send half a P-DATA-TF, and nothing more
+    asks, then stops  the same behind a C-ECHO
+    each second goes  the same, but each second one releases its association behind its C-ECHO
+    a byte at a time  ask for an association, and send a P-DATA-TF by a byte each 0.9 seconds
+    reads nothing     send 200 C-FINDs with 20 answers of 10 KB each, and read none of them
+    asks each 9 s     ask for an association, and send a C-ECHO each nine seconds
+    asks all the time the same, each fifth of a second
 
-A working peer that comes a second after them must be served within 15 seconds (`--limit`), behind the last kind within 30. Four
-peers that had an association before, and ask twice a second, must be answered all the while.
+A working peer that comes a second after them must be served within 30 seconds (`--limit`). Four peers of another address that
+had an association before, and ask twice a second, must be answered all the while.
+
+On a server of 16 workers as many peers send a C-ECHO each five seconds. Another one must be served after 20 to 30 seconds, and
+one of them alone must have made way.
 
 On a server of two workers one peer has an association and says nothing, another asks twice a second, and a third one waits. The
 silent one must make way after ten seconds of silence, and hear an A-ABORT, which the log reports; the other must go on. The
 third one then asks every three seconds, while a fourth one waits: it must go on, too. Then one of two peers that have asked
 before stops inside a message while a third one waits: it must make way after ten seconds, and not sooner.
+
+On a server of four workers one peer has an association and says nothing, and then three from another address do so. If a fifth
+peer waits, one of the three must make way, though they have been silent for less long.
 
 On a server with `--idle 2` and `--timeout 10` a peer pauses for five seconds between a command and its data set, and must be
 answered; and one that pauses there for longer than ten seconds must hear an A-ABORT, which the log reports as `Timeout`.
@@ -24,14 +36,16 @@ answered; and one that pauses there for longer than ten seconds must hear an A-A
 If nobody waits, `--timeout` and `--idle` hold: with 4 and 14 seconds a connection with half a header is closed after 4 and an
 association that says nothing after 14, each within a second, and neither earlier.
 
-It ends by itself, in four minutes if all is well. It prints how long each peer waited, a line for each trial that fails, and
+It ends by itself, in six minutes if all is well. It prints how long each peer waited, a line for each trial that fails, and
 in the end how many passed. It ends with status 1 if any failed. `trials/abuse.py` has peers of many other kinds.
 """
 
 from __future__ import annotations
 
 import argparse
+import asyncio
 import contextlib
+import itertools
 import os
 import signal
 import sys
@@ -42,8 +56,8 @@ from typing import Optional
 
 sys.path.insert(0, os.path.join(os.path.dirname(os.path.dirname(os.path.abspath(__file__))), "check/lib"))
 import dicom
-from abuse import ABORT, CROWD, ECHO, FAULTS, REQUEST, Holder, crowd, hung_up, served
-from dicom import EXPLICIT, IMPLICIT, PULL, VERIFICATION
+from abuse import ABORT, CROWD, ECHO, FAULTS, FEW_STEPS, REQUEST, Holder, create_steps, crowd, hung_up, never_reads, served
+from dicom import EXPLICIT, IMPLICIT, PULL, RELEASE, VERIFICATION, pdu
 from ending import Visitor
 from machine import HERE, holds
 from peer import Caller, connect
@@ -51,11 +65,13 @@ from results import Results
 from server import Server
 
 WORKERS, BUSY = 16, 4
-TIMEOUT = 10  # seconds: the limit of the server that a crowd comes to, and after which a silent association makes way
+TIMEOUT = 10  # seconds: after which a silent association makes way
 PATIENCE = 180  # seconds for which a working peer waits at most, longer than the limit so that its time can be reported
 SHORT, LONG = 4, 14  # the limits if nobody waits
 SLACK = 1.0
-SLOW_KIND, SLOW_LIMIT = "inside a message", 30.0  # seconds that a working peer may wait behind those
+TENURE, LATEST = 20, 30  # seconds for which an association keeps its worker while one peer waits, and by which that is served
+PAUSES = 0.9, 9.0, 0.2  # seconds between two bytes, and between two requests
+OTHER = "127.0.0.2"  # another address of this machine
 IDLE, PAUSE = 2, 5  # seconds: a limit of silence between messages, and a pause inside of one that is longer
 CONTEXTS = ((VERIFICATION, IMPLICIT), (PULL, EXPLICIT))
 QUERY = dicom.find(3, 1, dicom.data(True, 0x0074, 0x1000, b"CS", b"SCHEDULED "))
@@ -79,14 +95,64 @@ async def stops(holder: Holder) -> None:
     await holder.hear_all()
 
 
-KINDS = {"half a header": sends(REQUEST[:3]), "all but a byte": sends(REQUEST[:-1]), "associates": sends(REQUEST), SLOW_KIND: stops}
+async def asks_and_stops(holder: Holder) -> None:
+    """Asks for an association and sends a C-ECHO, hears the answers, and sends half of a P-DATA-TF."""
+    await holder.say(REQUEST)
+    await holder.hear()
+    await holder.say(ECHO)
+    await holder.hear()
+    await holder.say(ECHO[: len(ECHO) // 2])
+    await holder.hear_all()
+
+
+def each_second_goes() -> Callable[[Holder], Awaitable[None]]:
+    """Returns a kind of peer of which each second one releases its association behind a C-ECHO, and the others stop."""
+    turns = itertools.count()
+
+    async def one(holder: Holder) -> None:
+        if next(turns) % 2:
+            await asks_and_stops(holder)
+        await holder.say(REQUEST)
+        await holder.hear()
+        await holder.say(ECHO)
+        await holder.hear()
+        await holder.say(RELEASE)
+        await holder.hear_all()
+
+    return one
+
+
+async def drips(holder: Holder) -> None:
+    """Asks for an association, and sends a P-DATA-TF byte by byte."""
+    await holder.say(REQUEST)
+    await holder.hear()
+    for it in pdu(4, bytes(16384)):
+        await holder.say(bytes([it]))
+        await asyncio.sleep(PAUSES[0])
+
+
+def asks_each(pause: float) -> Callable[[Holder], Awaitable[None]]:
+    """Returns a kind of peer that asks for an association, and sends a C-ECHO again and again."""
+    async def asks(holder: Holder) -> None:
+        await holder.say(REQUEST)
+        while True:
+            await holder.hear()
+            await asyncio.sleep(pause)
+            await holder.say(ECHO)
+
+    return asks
+
+
+KINDS = {"half a header": sends(REQUEST[:3]), "all but a byte": sends(REQUEST[:-1]), "associates": sends(REQUEST), "inside a message": stops,
+         "asks, then stops": asks_and_stops, "each second goes": each_second_goes(), "a byte at a time": drips, "reads nothing": never_reads,
+         "asks each 9 s": asks_each(PAUSES[1]), "asks all the time": asks_each(PAUSES[2])}
 
 
 @contextlib.contextmanager
 def visitors(port: int, count: int) -> Iterator[list[Visitor]]:
-    """Runs that many peers that have an association already, and ask twice a second until the body ends."""
+    """Runs that many peers of another address that have an association already, and ask twice a second until the body ends."""
     over = threading.Event()
-    working = [Visitor(port, over) for _ in range(count)]
+    working = [Visitor(port, over, OTHER) for _ in range(count)]
     holds(lambda: all(it.is_served for it in working), TIMEOUT)
     try:
         yield working
@@ -104,7 +170,8 @@ def fault_of(working: list[Visitor]) -> Optional[str]:
 
 def crowd_trial(program: list[str], results: Results, name: str, limit: float) -> None:
     """Tries a working peer after a crowd, and others that were there before."""
-    with Server(program, "--associations", str(WORKERS), "--timeout", str(TIMEOUT)) as server:
+    with Server(program, "--associations", str(WORKERS)) as server:
+        create_steps(server.port, FEW_STEPS)
         with visitors(server.port, BUSY) as working, crowd(server.port, KINDS[name], [Holder() for _ in range(CROWD)]):
             waited = served(server.port, PATIENCE, 1)
             fault = fault_of(working)
@@ -117,15 +184,15 @@ def crowd_trial(program: list[str], results: Results, name: str, limit: float) -
 class Waiting:
     """A peer that waits for its association, and then asks every `pause` seconds until it is told to go."""
 
-    def __init__(self, port: int, pause: float, over: threading.Event) -> None:
-        self.port, self.pause, self.over = port, pause, over
+    def __init__(self, port: int, pause: float, over: threading.Event, source: Optional[str] = None) -> None:
+        self.port, self.pause, self.over, self.source = port, pause, over, source
         self.began, self.seconds, self.fault = time.monotonic(), 0.0, "it is not served"
         self.thread = threading.Thread(target=self.work, daemon=True)
         self.thread.start()
 
     def work(self) -> None:
         try:
-            peer = Caller(self.port, 4 * TIMEOUT)
+            peer = Caller(self.port, 4 * TIMEOUT, source=self.source)
             assert peer.ask(ECHO) == 0
             self.seconds, self.fault = time.monotonic() - self.began, ""
             while not self.over.wait(self.pause):
@@ -177,6 +244,38 @@ def stuck_trial(program: list[str], results: Results) -> None:
         over.set()
         third.thread.join(TIMEOUT)
         print(f"a peer behind one that stops inside a message: {third.told()}", flush=True)
+
+
+def fair_trial(program: list[str], results: Results) -> None:
+    """Tries whether peers that have all workers, and ask every five seconds, keep another one out."""
+    over = threading.Event()
+    with Server(program, "--associations", str(WORKERS)) as server:
+        working = [Waiting(server.port, 5.0, over) for _ in range(WORKERS)]
+        holds(lambda: all(it.seconds for it in working), TIMEOUT)
+        another = Waiting(server.port, 1.0, over)
+        holds(lambda: another.seconds, 2 * LATEST)
+        is_good = TENURE - SLACK <= another.seconds <= LATEST
+        results.tell(f"a peer behind {WORKERS} that ask each 5 s", None if is_good else f"it is {another.told()}")
+        time.sleep(2 * SLACK)
+        cut = sum("serve: MadeWay" in line for line in server.log)
+        results.tell(f"a peer behind {WORKERS} that ask each 5 s, who makes way", None if cut == 1 else f"{cut} associations")
+        over.set()
+        for it in (*working, another):
+            it.thread.join(TIMEOUT)
+        print(f"a peer behind {WORKERS} that ask each 5 s: {another.told()}", flush=True)
+
+
+def share_trial(program: list[str], results: Results) -> None:
+    """Tries whether an association of the address with more than half of the workers makes way before one of another address."""
+    with Server(program, "--associations", "4") as server:
+        first = Caller(server.port, 3 * TIMEOUT, source=OTHER)
+        time.sleep(2 * SLACK)
+        others = [Caller(server.port, 3 * TIMEOUT) for _ in range(3)]
+        waited = served(server.port, 2 * TIMEOUT, 1)
+        results.tell("a peer behind an address with most workers", None if waited else f"it is not served within {2 * TIMEOUT} s")
+        results.tell("an address with most workers makes way, A-ABORT", heard(others[0]))
+        results.tell("an address with most workers makes way, another one", None if first.ask(ECHO) == 0 else "it is refused")
+        print(f"a peer behind an address with most workers: served after {waited or 0:.1f} s", flush=True)
 
 
 def pause_trial(program: list[str], results: Results) -> None:
@@ -234,12 +333,14 @@ def main() -> None:
     parser = argparse.ArgumentParser(description=about, epilog=more, formatter_class=argparse.RawDescriptionHelpFormatter)
     parser.add_argument("program", nargs="*", default=[os.path.join(HERE, "crates/upsd/out/upsd")],
                         help="the program, and words before those of `serve` (default: crates/upsd/out/upsd, which `rt run` builds)")
-    parser.add_argument("--limit", type=float, default=15.0, help="seconds that a working peer may wait (default: %(default)s)")
+    parser.add_argument("--limit", type=float, default=30.0, help="seconds that a working peer may wait (default: %(default)s)")
     given, results = parser.parse_args(), Results(tells_passed=False)
     signal.signal(signal.SIGALRM, lambda *_: sys.exit("crowds.py: it does not end"))
     signal.alarm(900)
     for name in KINDS:
-        crowd_trial(given.program, results, name, SLOW_LIMIT if name == SLOW_KIND else given.limit)
+        crowd_trial(given.program, results, name, given.limit)
+    fair_trial(given.program, results)
+    share_trial(given.program, results)
     idle_trial(given.program, results)
     stuck_trial(given.program, results)
     pause_trial(given.program, results)

@@ -26,6 +26,7 @@ TIMEOUT = 5  # the server's, in seconds: for how long an answer is withheld
 SLACK = 10.0  # seconds after that by which its association ends
 AT_ONCE = 5.0  # seconds by which the log reports it
 AGAIN = 10.0  # seconds by which all goes on once there is room: two, on a machine that does nothing else
+ABORT = 7  # the type of an A-ABORT
 LARGE = 20_000  # bytes of a step that fills a disk
 TAKES_NONE, TAKES_AGAIN = r"(ERROR|<3>).*serve: the store takes no requests: ", r"serve: the store takes requests again"
 SHARES = 4  # failures that are tried at the same time
@@ -46,9 +47,11 @@ def large_step(size: int) -> bytes:
 
 @dataclasses.dataclass
 class Filling:
-    """How many steps were asked to be created, and those that were answered."""
+    """How many steps were asked to be created, those that were answered, and the type of the PDU by which the last association
+    ended, or None if its connection just ended."""
 
     asked: int = 0
+    last_pdu: Optional[int] = None
     answered: set[bytes] = dataclasses.field(default_factory=set)
     lock: threading.Lock = dataclasses.field(default_factory=threading.Lock)
 
@@ -62,7 +65,11 @@ class Filling:
             self.asked += 1
         try:
             status = client.create(uid, large_step(size))
-        except (OSError, EOFError, AssertionError):
+        except AssertionError as other:
+            self.last_pdu = other.args[0] if other.args else None
+            return False
+        except (OSError, EOFError):
+            self.last_pdu = None
             return False
         if status != 0x0000:
             raise Fault(f"a creation is answered {status:04X}")
@@ -180,6 +187,7 @@ def full_trials(server: Stored, folder: str, filling: Filling, watcher: Hearing,
     full_since = time.monotonic() - waited
     print(f"    full behind {len(filling.answered)} steps; the association ended after {waited:.1f} s", flush=True)
     results.tell("full: what is not committed is not answered, and its association ends", fault)
+    results.tell("full: the last thing heard is the A-ABORT", None if filling.last_pdu == ABORT else f"it is {filling.last_pdu}")
     is_told = holds(lambda: bool(server.lines(TAKES_NONE)), AT_ONCE)
     first = next((at for at, line in zip(server.times, server.log) if "takes no requests" in line), full_since + SECONDS)
     results.tell("full: the log tells of it at once", None if is_told and first - full_since < AT_ONCE else f"{server.log[-5:]}")

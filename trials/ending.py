@@ -243,16 +243,17 @@ def still_there(port: int, uid: bytes) -> Optional[str]:
 # descriptors
 
 class Visitor:
-    """A peer that keeps its association until it is told to go, and asks twice a second."""
+    """A peer that keeps its association until it is told to go, and asks twice a second. It may come from another address of
+    this machine."""
 
-    def __init__(self, port: int, over: threading.Event) -> None:
+    def __init__(self, port: int, over: threading.Event, source: Optional[str] = None) -> None:
         self.is_served, self.fault, self.over = False, "", over
-        self.thread = threading.Thread(target=self.visit, args=(port,), daemon=True)
+        self.thread = threading.Thread(target=self.visit, args=(port, source), daemon=True)
         self.thread.start()
 
-    def visit(self, port: int) -> None:
+    def visit(self, port: int, source: Optional[str]) -> None:
         try:
-            peer = Caller(port, 4 * LIMIT)
+            peer = Caller(port, 4 * LIMIT, source=source)
             assert peer.ask(dicom.echo(1)) == 0
             self.is_served = True
             while not self.over.wait(0.5):

@@ -19,8 +19,8 @@ report must have come to it once, in the order of the pushes. The log must say h
 the watcher is away, and once it has taken its reports that it is back. A report that is answered with a failure counts as
 answered, and no longer comes; a warning names the watcher and the status.
 
-With a million reports that wait, what the watcher acknowledges is still entered, so that each report comes once. The log must say
-at least once a minute that over 10,000 reports wait.
+With a million reports that wait, a subscription can still be ended, and what the watcher acknowledges is still entered, so that each
+report comes once. The log must say at least once a minute that over 10,000 reports wait.
 
 It ends by itself, in a minute and a half, and with --full in some minutes more. It prints the log of each trial, a line for
 each thing that fails, and in the end how many passed. It ends with status 1 if any failed.
@@ -45,7 +45,7 @@ from abuse import ABORT
 from dicom import EXPLICIT, PULL, PUSH, command, create, element, even, message, us
 from listeners import Incoming, Refusing
 from machine import HERE, holds
-from peer import GLOBAL, PUSH_ON, Asker, Caller, a_step, claim, subscribe
+from peer import GLOBAL, PUSH_ON, Asker, Caller, a_step, claim, subscribe, unsubscribe
 from results import Results
 from server import Server
 from watchers import Paced, waited
@@ -212,7 +212,7 @@ def try_full(program: list[str], entries: int, results: Results) -> list[str]:
 
 def try_full_with(program: list[str], file: str, watcher: Drops, entries: int, results: Results) -> list[str]:
     """The same with this store and this watcher."""
-    with Server(program, "--associations", "8", "--store", file, f"W1={watcher.place}") as server:
+    with Server(program, "--associations", "8", "--waiting", "0", "--store", file, f"W1={watcher.place}") as server:
         asker = Asker(server.port)
         asker.do(create(PUSH_ON, 1, WATCHED, a_step(b"P")))
         asker.do(subscribe(WATCHED, b"W1", b"FALSE"))
@@ -224,6 +224,10 @@ def try_full_with(program: list[str], file: str, watcher: Drops, entries: int, r
         status = fill_all(server.port, entries)
         filled = time.monotonic() - began
         results.tell("full, a request", None if status == 0x0213 else f"it is answered {status:04X} behind {entries} more")
+        asker = Asker(server.port)
+        ended = asker.ask(unsubscribe(WATCHED, b"W1"))
+        asker.release()
+        results.tell("full, the end of a subscription", None if ended == 0 else f"it is answered {ended:04X}")
         before, watcher.is_bad = watcher.asked, False
         holds(lambda: watcher.came, 90)
         time.sleep(BAD)

@@ -4,8 +4,9 @@
     trials/metrics.py [PROGRAM]      (default: crates/upsd/out/upsd)
 
 A client makes requests, of which some are refused, and a watcher that nobody plays is away: the file has to have these numbers,
-with each label escaped, for everybody to read, whatever the umask is, and whole whenever it is read. A server with a store has to
-tell what is committed, and when its store fails. A server whose file can't be written has to warn once a minute, to serve as ever,
+with each label escaped, for everybody to read, whatever the umask is, and whole whenever it is read; each status that an operation may
+have is there from the start. A link in the place of the file beside it stays as it is where it leads. A server with a store has to
+tell what is committed, when its store fails, and how many rows it has, fewer once it was compacted. A server whose file can't be written has to warn once a minute, to serve as ever,
 and to write once the folder is there. `promtool` (Debian's package `prometheus`) has to accept the file and the alert rules, and
 the alerts have to come as they should; the rules and the dashboard of packaging/monitoring may name no other numbers.
 
@@ -21,6 +22,7 @@ import glob
 import json
 import os
 import re
+import resource
 import shutil
 import stat
 import subprocess
@@ -41,6 +43,8 @@ from stored import Client, a_step_of, make_store
 PAUSE = 25.0  # seconds within which a page has to show what was asked before: one comes each 15
 COUNTED = 64.0  # seconds between two counts of what waits for watchers
 FOR_ALL = 0o644
+LIMIT = 4 << 30  # bytes of addresses of a server
+STEPS = 40  # that are created and canceled before a compaction
 LINE = re.compile(r'(\w+)(?:\{((?:\w+="(?:[^"\\\n]|\\["\\n])*",?)+)\})? (\d+(?:\.\d+)?)')
 LABEL = re.compile(r'(\w+)="((?:[^"\\]|\\.)*)"')
 NAME = re.compile(r"upsd_\w+")
@@ -116,7 +120,12 @@ NUMBERS = {
     **{sample("upsd_requests_total", operation=name): number for name, number in ANSWERED.items()},
     sample("upsd_refusals_total", operation="N-CREATE", status="0111"): 1,
     sample("upsd_refusals_total", operation="Change", status="C302"): 1,
+    sample("upsd_refusals_total", operation="N-CREATE", status="0213"): 0,
+    sample("upsd_refusals_total", operation="N-SET", status="C301"): 0,
+    sample("upsd_refusals_total", operation="C-FIND", status="A900"): 0,
+    sample("upsd_steps_held"): 3,
     sample("upsd_watcher_away", watcher="W1"): 1, sample("upsd_watcher_away", watcher='W"2'): 1,
+    sample("upsd_reports_delivered_total", watcher="W1"): 0, sample("upsd_reports_delivered_total", watcher='W"2'): 0,
 }
 PENDING = {sample("upsd_reports_pending", watcher=it): 3 for it in ("W1", 'W"2')}  # the last State Report of each step
 
@@ -144,6 +153,30 @@ def broken_pages(file: str, seconds: float) -> Optional[str]:
     return None
 
 
+def fault_of_memory(now: Mapping[Sample, float], pid: int) -> Optional[str]:
+    """Returns how the memory of a page differs from what the system tells by more than a tenth, or None."""
+    with open(f"/proc/{pid}/statm", encoding="ascii") as opened:
+        pages = [int(it) * os.sysconf("SC_PAGE_SIZE") for it in opened.read().split()]
+    for name, wanted in (("upsd_virtual_memory_bytes", pages[0]), ("upsd_resident_memory_bytes", pages[1])):
+        if not 0.9 * wanted <= now.get(sample(name), 0) <= 1.1 * wanted:
+            return f"{name} is {now.get(sample(name))}, and {wanted} is so"
+    return None
+
+
+def leaves_links_alone(program: list[str], folder: str, results: Results) -> None:
+    """Checks that no page is written through a link beside its file, and that a limit of addresses is told."""
+    file, other = os.path.join(folder, "upsd.prom"), os.path.join(folder, "other")
+    with open(other, "w", encoding="ascii") as opened:
+        opened.write("other")
+    os.symlink(other, file + ".new")
+    with Server(program, "--metrics", file, prepare=lambda: resource.setrlimit(resource.RLIMIT_AS, (LIMIT, LIMIT))):
+        results.tell("a page comes in spite of a link beside it", differences(file, {sample("upsd_virtual_memory_max_bytes"): LIMIT}))
+    with open(other, encoding="ascii") as opened:
+        results.tell("nothing is written through the link", None if opened.read() == "other" else "something is")
+    left = sorted(os.listdir(folder))
+    results.tell("the link is gone", None if left == ["other", "upsd.prom"] else f"{left}")
+
+
 def tells_of_requests(program: list[str], folder: str, results: Results) -> None:
     """Checks the numbers of a server without a store, whose umask lets nobody read its files."""
     file = os.path.join(folder, "upsd.prom")
@@ -160,6 +193,9 @@ def tells_of_requests(program: list[str], folder: str, results: Results) -> None
         stored = [it for it, _ in now if it.startswith("upsd_store")]
         results.tell("nothing is told of a store", f"{stored}" if stored else None)
         mode = stat.S_IMODE(os.stat(file).st_mode)
+        told = {kind for (it, labels), number in now.items() if it == "upsd_refusals_total" for name, kind in labels if name == "operation"}
+        results.tell("each operation has its statuses from the start", None if told == ANSWERED.keys() - {"other"} else f"{sorted(told)}")
+        results.tell("the memory in use", fault_of_memory(now, pid_of(server.process)))
         results.tell("everybody may read the file", None if mode == FOR_ALL else f"{mode:o}")
         results.tell("each page is whole", broken_pages(file, PAUSE))
         results.tell("the reports that wait, once they are counted", differences(file, PENDING, COUNTED + PAUSE))
@@ -181,10 +217,39 @@ def tells_of_a_store(program: list[str], folder: str, results: Results) -> str:
     with Server(program, "--associations", "7", "--metrics", file, "--store", store, *watchers()) as server:
         requests(client := Client(server.port))
         wanted = {sample("upsd_store_run"): 1, sample("upsd_store_committed_entries"): 6, sample("upsd_store_failing"): 0,
+                  sample("upsd_store_rows"): 6, sample("upsd_store_compactions_total"): 0, sample("upsd_store_compaction_failing"): 0,
+                  sample("upsd_store_last_compaction_timestamp_seconds"): 0,
                   sample("upsd_store_lost"): 0, sample("upsd_build_info", version=version_of(program)): 1}
         results.tell("the numbers with a store", differences(file, {**NUMBERS, **wanted}))
         client.socket.close()
         return page_in(file) or ""
+
+
+def tells_of_a_compaction(program: list[str], folder: str, results: Results) -> None:
+    """Checks that the rows of a store fall once it was compacted, while what is committed does not, and begin there at a restart."""
+    file, store = os.path.join(folder, "compacted.prom"), os.path.join(folder, "compacted")
+    make_store(program, store)
+    words = ["--metrics", file, "--store", store, "--keep", "0", "--compact-at", f"{STEPS}"]
+    with Server(program, *words) as server:
+        client = Client(server.port)
+        for at in range(STEPS):
+            client.create(b"1.2.3.%d" % at, a_step_of(b"P"))
+            client.cancel(b"1.2.3.%d" % at)
+        is_done = holds(lambda: numbers_of(file).get(sample("upsd_store_compactions_total"), 0) > 0, PAUSE)
+        now = numbers_of(file)
+        rows, committed = (now.get(sample(it), 0) for it in ("upsd_store_rows", "upsd_store_committed_entries"))
+        results.tell("a compaction is told", None if is_done else f"{server.log[-3:]}")
+        fell = committed >= 2 * STEPS and 0 < rows <= committed - STEPS // 2
+        results.tell("the rows fall, and what is committed does not", None if fell else f"{rows} rows, {committed} committed")
+        last = now.get(sample("upsd_store_last_compaction_timestamp_seconds"), 0)
+        results.tell("when it was", None if abs(last - time.time()) < 2 * PAUSE else f"{last}")
+        results.tell("no step is held", differences(file, {sample("upsd_steps_held"): 0}))
+        client.socket.close()
+        time.sleep(1.5 + PAUSE)
+        rows = numbers_of(file).get(sample("upsd_store_rows"), 0)
+    with Server(program, *words) as server:
+        begun = [int(it) for line in server.lines(r"run \d+ begins with") for it in re.findall(r"with (\d+) requests", line)]
+        results.tell("a restart reads as many requests", None if begun == [rows] else f"{begun} read, {rows} rows told")
 
 
 @contextlib.contextmanager
@@ -249,7 +314,7 @@ def goes_on_without_a_file(program: list[str], folder: str, results: Results) ->
 
 def names_no_other(page: str, results: Results) -> None:
     """Checks that what is made for a monitor names no number that a page lacks."""
-    told = set(NAME.findall(page)) | {"upsd_" + it for it in ("refusals_total",)}
+    told = set(NAME.findall(page)) | {"upsd_" + it for it in ("virtual_memory_max_bytes",)}
     for path in sorted(glob.glob(os.path.join(MONITORING, "*"))):
         with open(path, encoding="utf-8") as opened:
             text = opened.read()
@@ -260,27 +325,33 @@ def names_no_other(page: str, results: Results) -> None:
 
 
 CALM = """\
-      - {series: 'upsd_build_info{instance="A", version="0.2.0"}', values: '1x120'}
+      - {series: 'upsd_build_info{instance="A", version="0.3.0"}', values: '1x120'}
       - {series: 'node_textfile_mtime_seconds{instance="A", file="/run/upsd.prom"}', values: '0+60x120'}
       - {series: 'upsd_store_failing{instance="A"}', values: '0x120'}
       - {series: 'upsd_store_lost{instance="A"}', values: '0x120'}
       - {series: 'upsd_start_time_seconds{instance="A"}', values: '0x120'}
-      - {series: 'upsd_history_entries{instance="A"}', values: '0+100x120'}
-      - {series: 'upsd_store_committed_entries{instance="A"}', values: '0+100x120'}
+      - {series: 'upsd_history_entries{instance="A"}', values: '4000000+100x120'}
+      - {series: 'upsd_store_committed_entries{instance="A"}', values: '4000000+100x120'}
+      - {series: 'upsd_store_rows{instance="A"}', values: '300000x120'}
+      - {series: 'upsd_store_compaction_failing{instance="A"}', values: '0x120'}
+      - {series: 'upsd_virtual_memory_bytes{instance="A"}', values: '1e9x120'}
+      - {series: 'upsd_virtual_memory_max_bytes{instance="A"}', values: '3e9x120'}
       - {series: 'upsd_workers{instance="A"}', values: '16x120'}
       - {series: 'upsd_workers_taken{instance="A"}', values: '3x120'}
       - {series: 'upsd_watcher_away{instance="A", watcher="W1"}', values: '0x120'}
       - {series: 'upsd_reports_pending{instance="A", watcher="W1"}', values: '10x120'}
       - {series: 'upsd_requests_total{instance="A", operation="N-SET"}', values: '0+100x120'}
       - {series: 'upsd_refusals_total{instance="A", operation="N-SET", status="C301"}', values: '0+1x120'}
+      - {series: 'upsd_backup_timestamp_seconds{instance="A"}', values: '0+60x120'}
 """
 ALARMS = {  # what is otherwise when each alert comes: a number, and its values over two hours
     "UpsdStoreLost": ("upsd_store_lost", "0x60 1x60"), "UpsdStoreFailing": ("upsd_store_failing", "0x60 1x60"),
-    "UpsdNotCommitted": ("upsd_store_committed_entries", "0+100x60 6000x60"), "UpsdStale": ("node_textfile_mtime_seconds", "0+60x60 3600x60"),
+    "UpsdNotCommitted": ("upsd_store_committed_entries", "4000000+100x60 4006000x60"), "UpsdStale": ("node_textfile_mtime_seconds", "0+60x60 3600x60"),
     "UpsdAbsent": ("upsd_build_info", "1x60 stale"), "UpsdRestarts": ("upsd_start_time_seconds", "0+60x120"),
     "UpsdWorkersTaken": ("upsd_workers_taken", "3x60 16x60"), "UpsdWatcherAway": ("upsd_watcher_away", "0x30 1x90"),
     "UpsdReportsPending": ("upsd_reports_pending", "10x60 10001x60"), "UpsdRefusals": ("upsd_refusals_total", "0+20x120"),
-    "UpsdLargeStore": ("upsd_store_committed_entries", "4000000x120"),
+    "UpsdLargeStore": ("upsd_store_rows", "4000000x120"), "UpsdNotCompacted": ("upsd_store_compaction_failing", "0x60 1x60"),
+    "UpsdMemory": ("upsd_virtual_memory_bytes", "1e9x60 2.8e9x60"), "UpsdBackupOld": ("upsd_backup_timestamp_seconds", "-100000x120"),
 }
 
 
@@ -318,7 +389,8 @@ def main() -> None:
     with tempfile.TemporaryDirectory() as folder:
         if shutil.which("promtool"):
             alerts_come(folder, results)
-        for name, trial in (("requests", tells_of_requests), ("file", goes_on_without_a_file)):
+        for name, trial in (("requests", tells_of_requests), ("file", goes_on_without_a_file), ("links", leaves_links_alone),
+                            ("compaction", tells_of_a_compaction)):
             os.mkdir(os.path.join(folder, name))
             trial(program, os.path.join(folder, name), results)
         names_no_other(tells_of_a_store(program, folder, results), results)

@@ -7,7 +7,8 @@
     trials/package.py --root FOLDER    takes the bare Debian of a folder, and makes it there if there is none
 
 Two builds must be equal, `lintian` may find no error and no warning, `systemd-analyze security` may say at most 2.0, and the
-synopsis of upsd(8) must have the options of each --help. The package's file PROVED has to have the program's sum. Then `debootstrap` makes a Debian 12 with systemd (some 300 MB from
+synopsis of upsd(8) must have the options of each --help. The program has to say of what commit it was proved, or that it was not,
+as the package's file PROVED does. Then `debootstrap` makes a Debian 12 with systemd (some 300 MB from
 deb.debian.org), and `systemd-nspawn` boots it, with a network of its own. There the package is installed with what it depends
 on; the unit, as it is but for the words in /etc/default/upsd, runs the tour of README.md through `ups`; a restart, a reload,
 an upgrade, a hangup, a wrong word, a removal and a purge must do what the package says. `systemd-analyze verify` may say
@@ -248,7 +249,10 @@ def try_installation(machine: Machine, results: Results) -> None:
     results.tell("the man pages", man_pages(machine.root))
     owner = owners(machine)
     results.tell("the first installation makes a store", unless(owner == "upsd 600\nupsd 700", owner))
-    told = machine.says("cat", "/usr/share/doc/upsd/PROVED")
+    said, told = machine.says("upsd", "--version"), machine.says("cat", "/usr/share/doc/upsd/PROVED")
+    commit = re.search(r"(?m)^commit: ([0-9a-f]{40})$", told)
+    wanted = f"commit {commit[1]}, all proved" if commit else f"commit {40 * '0'}, not proved"
+    results.tell("the program says of what it was proved", unless(wanted in said, f"{said!r} lacks {wanted!r}"))
     total = hashlib.sha256(content(machine.path("usr/bin/upsd"))).hexdigest()
     results.tell("PROVED has its sum", unless(f"sha256 of /usr/bin/upsd: {total}\n" in f"{told}\n", told))
     found = machine.of_unit("LogRateLimitIntervalUSec"), machine.of_unit("TimeoutStartUSec")

@@ -7,12 +7,15 @@ import contextlib
 import os
 import random
 import re
+import shutil
 import sqlite3
 import time
 from typing import Optional
 
 from ledger import SOP_INSTANCE, Fault
 from machine import holds
+from making import EARLIER, ITS_SETTINGS
+from peer import GLOBAL
 from results import Results
 from stored import (FAULTS, Client, Ended, Row, Stored, a_step_of, bytes_in, compacted, copy_of, folder_for, is_sentence,
                     performed, refused, rows_of, runs_of, started_on, text_in, tried)
@@ -81,6 +84,102 @@ def other_settings(program: list[str], folder: str, results: Results) -> None:
                         ("another offset", [*BOTH, "--offset", "120"])):
         results.tell(f"{name}, which may be", serves_all(program, copy_of(file, folder), [*words, OTHER], STEPS + 1))
     results.tell("the table of runs", tried(fault_of_runs, file))
+    earlier_format(program, folder, results)
+    results.tell("a right that is given", tried(right_given, program, folder))
+    results.tell("a right that is given, by a compaction", tried(right_given_to_compaction, program, folder))
+    results.tell("a right that is given, killed at each write", tried(right_given_and_killed, program, folder))
+
+
+def earlier_format(program: list[str], folder: str, results: Results) -> None:
+    """Tries starts on a store of an earlier format that are refused: it has to keep its format, byte for byte."""
+    file = os.path.join(folder, "earlier")
+    shutil.copyfile(EARLIER, file)
+    before = bytes_in(file)
+    for name, words, said in (("without its peer", ITS_SETTINGS[:4], r"request 1 \(subscribe\)"),
+                              ("with another time to keep", ("--keep", "100000", *ITS_SETTINGS[2:]), r"request 21 \(sweep\)")):
+        results.tell(f"a store of an earlier format, {name}: it stays as it was", refused(started_on(program, file, *words), said, before, file, False))
+    results.tell("a store of an earlier format: a compaction that is refused leaves it", refused(compacted(program, file, *ITS_SETTINGS[:4]), "request 1", before, file, False))
+
+
+GIVEN = ["--keep", "1", "W2=127.0.0.1:1,lock"]
+LOCK = 8  # the column of the Deletion Lock
+
+
+def with_ungranted(program: list[str], folder: str, name: str) -> str:
+    """Makes a store in which W1 asked for locks without the right to them, steps 0 and 1 were removed, W2 holds 2, and 3 goes on."""
+    file = os.path.join(folder, name)
+    with Stored(program, file, *GIVEN, W1_PLAIN) as server:
+        client = Client(server.port)
+        asked = [client.subscribe(GLOBAL, b"W1", b"TRUE")] + [client.create(uid_of(it), a_step_of(b"P")) for it in range(4)]
+        asked += [client.subscribe(uid_of(0), b"W1", b"TRUE"), client.subscribe(uid_of(2), b"W2", b"TRUE")]
+        for it in range(3):
+            transaction = b"2.25.%d" % (it + 1)
+            asked += [client.change(uid_of(it), b"IN PROGRESS", transaction), client.set(uid_of(it), performed(1), transaction),
+                      client.change(uid_of(it), b"COMPLETED", transaction)]
+        if asked[0] != 0xB301 or asked[5] != 0xB301 or any(asked[1:5] + asked[6:]):
+            raise Fault(f"what is asked is answered {asked}")
+        if not holds(lambda: client.got(uid_of(0)) is None and client.got(uid_of(1)) is None, TIDY):
+            raise Fault("no sweep removes what nobody locks")
+        client.release()
+        time.sleep(1)
+    return file
+
+
+def fault_of_given(program: list[str], file: str, words: list[str]) -> Optional[str]:
+    """Returns what is wrong once W1 has the right, or None: removed steps stay removed, and what W2 locked stays."""
+    with Stored(program, file, *words) as server:
+        client = Client(server.port)
+        found = sorted(text_in(it, SOP_INSTANCE) for it in client.found())
+        used = [client.create(uid_of(it), a_step_of(b"P")) for it in range(4)]
+        granted = client.subscribe(uid_of(3), b"W1", b"TRUE")
+    if found != [uid_of(2), uid_of(3)]:
+        return f"the steps are {found}"
+    if used != [0x0111] * 4 or granted != 0x0000:
+        return f"creations under used UIDs are answered {used}, and a lock that may be granted {granted:04X}"
+    return None
+
+
+def locks_of(file: str) -> list[tuple[object, object]]:
+    """Returns who asked for subscriptions, and whether with a lock."""
+    return [(row[RECEIVER], row[LOCK]) for row in rows_of(file) if row[OPERATION] == "subscribe"]
+
+
+def right_given(program: list[str], folder: str) -> Optional[str]:
+    """Returns what is wrong if a peer gets the right to lock steps after a lock was not granted to it, or None."""
+    file = with_ungranted(program, folder, "given")
+    before = rows_of(file)
+    fault = fault_of_given(program, file, [*GIVEN, W1])
+    after = rows_of(file)
+    same = [(row[1:LOCK], row[LOCK + 1:]) for row in before] == [(row[1:LOCK], row[LOCK + 1:]) for row in after[:len(before)]]
+    if fault or not same:
+        return fault or "other columns than that of the lock have changed"
+    if locks_of(file) != [("W1", 0), ("W1", 0), ("W2", 1), ("W1", 1)]:
+        return f"the locks are {locks_of(file)}"
+    return fault_of_given(program, file, [*GIVEN, W1])
+
+
+def right_given_to_compaction(program: list[str], folder: str) -> Optional[str]:
+    """Returns what is wrong if a compaction gives the right, or None."""
+    file = with_ungranted(program, folder, "given_to_compaction")
+    come = compacted(program, file, *GIVEN, W1)
+    return f"{come}" if come.status != 0 else fault_of_given(program, file, [*GIVEN, W1])
+
+
+def right_given_and_killed(program: list[str], folder: str) -> Optional[str]:
+    """Kills the first start with the right at one write and sync after the other. Returns what is wrong after one, or None."""
+    made, faults = with_ungranted(program, folder, "given_and_killed"), []
+    for call in ("pwrite64", "fdatasync"):
+        for number in range(1, MOST_CALLS):
+            file = copy_of(made, folder)
+            injected = ["strace", "-f", "-qq", "-o", "/dev/null", "-e", f"trace={call}", "-e", f"inject={call}:signal=KILL:when={number}"]
+            with contextlib.suppress(*FAULTS), Stored([*injected, *program], file, *GIVEN, W1):
+                break
+            fault = fault_of_given(program, file, [*GIVEN, W1])
+            faults += [f"{call} {number}: {fault}"] if fault else []
+    return "; ".join(faults[:3]) or None
+
+
+MOST_CALLS = 80  # a start has fewer of each
 
 
 def less_is_refused(program: list[str], folder: str, file: str, results: Results) -> None:

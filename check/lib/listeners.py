@@ -74,15 +74,15 @@ class Incoming(Peer):
 
 
 class Counting:
-    """A peer that listens, serves each connection at once, and counts connections and reports."""
+    """A peer that listens, at a free port or at this one, serves each connection at once, and counts connections and reports."""
 
-    def __init__(self) -> None:
+    def __init__(self, port: int = 0) -> None:
         self.came: collections.Counter[bytes] = collections.Counter()
         self.first: dict[bytes, float] = {}  # when the first report of each step came
         self.order: list[bytes] = []
         self.open, self.most, self.asked = 0, 0, 0
         self.lock = threading.Lock()
-        self.listener = socket.create_server(("127.0.0.1", 0))
+        self.listener = socket.create_server(("127.0.0.1", port))
         self.place = f"127.0.0.1:{self.listener.getsockname()[1]}"
         threading.Thread(target=self.listen, daemon=True).start()
 

@@ -111,8 +111,8 @@ class Caller(Peer):
     contexts it is not requested yet."""
 
     def __init__(self, port: int, seconds: float, contexts: Optional[Contexts] = ((VERIFICATION, IMPLICIT),),
-                 buffer: Optional[int] = None, to_connect: Optional[float] = None) -> None:
-        self.use(connect(port, to_connect or seconds, buffer))
+                 buffer: Optional[int] = None, to_connect: Optional[float] = None, source: Optional[str] = None) -> None:
+        self.use(connect(port, to_connect or seconds, buffer, source))
         self.socket.settimeout(seconds)
         if contexts:
             self.associate(contexts)

@@ -195,7 +195,7 @@ impl<'a> StoreOpener<'a, MemoryLedger> for MemoryStores {
         _file: &'a str,
         _choices: StartChoices,
         _manager: &Manager<Global>,
-    ) -> Result<(), Unopened> {
-        Ok(())
+    ) -> Result<Option<u16>, Unopened> {
+        Ok(None)
     }
 }

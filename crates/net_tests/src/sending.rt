@@ -53,6 +53,7 @@ fn options_of(alloc: Global) -> Result<ServerOptions, Fail> {
             idle: 10,
             timeout: 10,
             delivery_timeout: 10,
+            waiting: 0,
             compact_at: 1_000,
         },
         associations: 1,

@@ -1,5 +1,5 @@
 -- What the words of a command line are cut into.
-use Rattle.std.proofs.Common.{◌≡◌, ◌≢◌, ℕ, ◌<◌, ◌≤◌, ◌+◌, Bool, true, false, ◌&&◌, List, [], ◌∷◌, ◌++◌, length, get_or, take, drop, map, Option, None, Some, MatchOption, Bor, refl, sym, ◌∙◌, ap, subst, arith, lit<, length-append, append-nil, ◌==◌, Result, Ok, ◌^◌, nat_lt, IsTrue, add-one, zero, suc}
+use Rattle.std.proofs.Common.{◌≡◌, ◌≢◌, ℕ, ◌<◌, ◌≤◌, ◌+◌, Bool, true, false, ◌&&◌, List, [], ◌∷◌, ◌++◌, length, get_or, take, drop, map, Option, None, Some, MatchOption, Bor, refl, sym, ◌∙◌, ap, subst, arith, lit<, length-append, append-nil, ◌==◌, Result, Ok, ◌^◌, nat_lt, IsTrue, add-one, zero, suc, inl, inr}
 use Rattle.std.specs.Char.{is_ascii_digit, digit_value}
 use Rattle.std.specs.Int.{IsInRange}
 use Rattle.std.specs.List.{list_all}
@@ -14,7 +14,7 @@ use Rattle.std.proofs.Math.Seq.{get_or-append_seam, take-suc, drop-cons}
 use Rattle.ups_life.specs.declared.peer.Peer.{Peer}
 use Rattle.ups_pdu.specs.Title.{SpellsAe}
 use Rattle.ups_settings.specs.Refusal.{is_twice}
-use Rattle.ups_args.specs.Arguments.{IsPort, IsAddress, SaysAddress, SaysLock, SaysPlace, NamesPeer, NamesPlace, EachNames, NamePeers, StopsAt, ending_of}
+use Rattle.ups_args.specs.Arguments.{IsPort, IsAddress, IsListening, CutsLock, SaysAddress, SaysLock, SaysPlace, nowhere, NamesPeer, NamesPlace, EachNames, NamePeers, StopsAt, ending_of}
 
 both_true : (a b : Bool) → a ≡ true → b ≡ true → (a && b) ≡ true
 both_true true b e f = f
@@ -137,23 +137,37 @@ digit_last text front a e =
 pub ends_so : (s : List ℕ) (x : List ℕ) → StripsSuffix (FindsTextSuffix (ending_of true)) s x → s ≡ x ++ ending_of true
 ends_so s x (n, found, is, l) = found.1 ∙ ap (λ l. l ++ ending_of true) (sym is)
 
-pub unlocked : (text address : List ℕ) → text ≡ address ++ ending_of true → (IsAddress address → ⊥) → (lock : Bool) → SaysLock text lock → ⊥
-unlocked text address e never true s = never (subst IsAddress (append_cancel_right s.address address (ending_of true) (sym s.parts ∙ e)) s.is_address)
-unlocked text address e never false s = digit_last text address (subst IsAddress (sym (s.parts ∙ append-nil s.address)) s.is_address) e
+-- no place ends so
+place_last : (text front : List ℕ) → IsListening text → text ≡ front ++ ending_of true → ⊥
+place_last text front (inl is) e = absurd (omega (arith, ap length is, ap length e, length-append front (ending_of true)))
+place_last text front (inr a) e = digit_last text front a e
 
-pub locked : (text address host : List ℕ) (port : ℕ) → text ≡ address ++ ending_of true → SaysAddress address host port → SaysPlace text host port true
-locked text address host port e a = record {
-  says = record { address = address; parts = e; is_address = a.is_address };
-  is_host = a.is_host;
-  is_port = a.is_port;
-}
+pub cut_locked : (text place : List ℕ) → text ≡ place ++ ending_of true → CutsLock text place true
+cut_locked text place e = record { parts = e; only = only }
+  where
+    only : (marked : Bool) (says : SaysLock text marked) → says.address ≡ place
+    only true s = append_cancel_right s.address place (ending_of true) (sym s.parts ∙ e)
+    only false s = absurd (place_last text place (subst IsListening (sym (s.parts ∙ append-nil s.address)) s.is_place) e)
 
-pub unmarked : (text host : List ℕ) (port : ℕ) → SaysAddress text host port → SaysPlace text host port false
-unmarked text host port a = record {
-  says = record { address = text; parts = sym (append-nil text); is_address = a.is_address };
-  is_host = a.is_host;
-  is_port = a.is_port;
-}
+pub cut_unlocked : (text : List ℕ) → ((front : List ℕ) → text ≡ front ++ ending_of true → ⊥) → CutsLock text text false
+cut_unlocked text never = record { parts = sym (append-nil text); only = only }
+  where
+    only : (marked : Bool) (says : SaysLock text marked) → says.address ≡ text
+    only true s = absurd (never s.address s.parts)
+    only false s = sym (s.parts ∙ append-nil s.address)
+
+pub unplaced : (text place : List ℕ) (lock : Bool) → CutsLock text place lock → (place ≡ nowhere → ⊥) → (IsAddress place → ⊥) → (marked : Bool) → SaysLock text marked → ⊥
+unplaced text place lock c some never marked s = at (subst IsListening (c.only marked s) s.is_place)
+  where
+    at : IsListening place → ⊥
+    at (inl is) = some is
+    at (inr a) = never a
+
+pub placed_nowhere : (text place : List ℕ) (lock : Bool) → CutsLock text place lock → place ≡ nowhere → SaysPlace text None lock
+placed_nowhere text place lock c is = record { says = record { address = place; parts = c.parts; is_place = inl is }; is_there = is }
+
+pub placed : (text place host : List ℕ) (port : ℕ) (lock : Bool) → CutsLock text place lock → SaysAddress place host port → SaysPlace text (Some (host, port)) lock
+placed text place host port lock c a = record { says = record { address = place; parts = c.parts; is_place = inr a.is_address }; is_there = a }
 
 pub unsplit : (bs : List ℕ) (r : Option (Bor (List ℕ) × Bor (List ℕ))) → IsSplitOnceResult 61 bs r → r ≡ None → (p : Peer) → NamesPeer bs p → ⊥
 unsplit bs r h e p n = let k = split_after 61 bs n.title n.rest r h (lit< tt) n.parts n.first in rw e at k
@@ -180,11 +194,10 @@ untitled bs title rest f never p n = never p.ae (subst (λ (t : List ℕ). Spell
 pub unlockable : (bs title rest : List ℕ) → First bs title rest → ((lock : Bool) → SaysLock rest lock → ⊥) → (p : Peer) → NamesPeer bs p → ⊥
 unlockable bs title rest f never p n = never p.lock (subst (λ (t : List ℕ). SaysLock t p.lock) (sym (f.only p n).1) n.says)
 
-pub names : (bs title rest ae host : List ℕ) (port : ℕ) (lock : Bool) → First bs title rest → SpellsAe title ae → SaysPlace rest host port lock → NamesPlace bs record { ae = ae; lock = lock } host port
-names bs title rest ae host port lock f spells place = record {
+pub names : (bs title rest ae : List ℕ) (at : Option (List ℕ × ℕ)) (lock : Bool) → First bs title rest → SpellsAe title ae → SaysPlace rest at lock → NamesPlace bs record { ae = ae; lock = lock } at
+names bs title rest ae at lock f spells place = record {
   names = record { title = title; rest = rest; parts = f.parts; first = f.first; spells = spells; says = place.says };
-  is_host = place.is_host;
-  is_port = place.is_port;
+  is_there = place.is_there;
 }
 
 pub one_more : {P : Type 0} (Names : List ℕ → P → Type 0) (ws : List (List ℕ)) (ps : List P) (w : List ℕ) (p : P) → EachNames Names ws ps → Names w p → EachNames Names (ws ++ w ∷ []) (ps ++ p ∷ [])

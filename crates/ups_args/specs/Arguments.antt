@@ -1,7 +1,9 @@
 -- What the words of a command line say.
-use Rattle.std.specs.Prelude.{◌≡◌, ◌≢◌, ◌⊎◌, ℕ, ◌<◌, ◌≤◌, ◌^◌, ℤ, Bool, true, false, ◌||◌, nat_eq, nat_lt, is_some, List, [], ◌∷◌, ◌++◌, length, slice_index, codes, string_bytes, Option, Some, None, option_map, unwrap_or}
+use Rattle.std.specs.Prelude.{◌≡◌, ◌≢◌, ◌⊎◌, ℕ, ◌<◌, ◌≤◌, ◌^◌, ℤ, Bool, true, false, not, ◌&&◌, ◌||◌, nat_eq, nat_lt, is_some, List, [], ◌∷◌, ◌++◌, length, slice_index, drop, codes, string_bytes, Option, Some, None, option_map, unwrap_or}
 use Rattle.std.specs.Char.{is_ascii_whitespace}
-use Rattle.std.specs.List.{list_any}
+use Rattle.std.specs.List.{list_any, starts_with}
+use Rattle.std.specs.Cmp.Lexicographic.{pointwise}
+use Rattle.std.specs.Path.{path_file_name}
 use Rattle.std.specs.Str.Parse.{IsNumeral, digits_value, signed_digits_value, without_leading_plus, without_leading_sign}
 use Rattle.clap.specs.declared.parser.matches.Found.{Found}
 use Rattle.clap.specs.Matches.{first_value, matched_of, one_text, raw_values}
@@ -9,12 +11,13 @@ use Rattle.ups_life.specs.declared.peer.Peer.{Peer}
 use Rattle.ups_life.specs.Limits.{peer_limit}
 use Rattle.ups_settings.specs.Refusal.{is_bad_offset, is_named, is_twice}
 use Rattle.ups_peers.specs.declared.watcher.Watcher.{Watcher}
+use Rattle.ups_peers.specs.declared.watcher.WatcherAddress.{WatcherAddress}
 use Rattle.ups_pdu.specs.Title.{SpellsAe}
 use Rattle.ups_args.specs.declared.fault.ArgumentFault.{ArgumentFault}
 use Rattle.ups_args.specs.declared.fault.ArgumentFault.TheVariants as faults
 use Rattle.ups_args.specs.declared.peers.PeerLine.{PeerLine}
 use Rattle.ups_args.specs.declared.peers.PeerLine.TheVariants as lines
-use Rattle.ups_peers.specs.Limits.{compact_at_limit, default_compact_at, default_workers, delivery_seconds, idle_seconds, timeout_seconds, workers_limit}
+use Rattle.ups_peers.specs.Limits.{compact_at_limit, default_compact_at, default_waiting, default_workers, delivery_seconds, idle_seconds, timeout_seconds, workers_limit}
 use Rattle.ups_settings.specs.Defaults.{keep_seconds, local_offset}
 
 -- a number of seconds below 2^32, in decimal digits, with or without a + in front
@@ -74,6 +77,17 @@ SaysTimeout = SaysSecondsOr timeout_seconds
 abbrev pub SaysDeliveryTimeout : Option (List ℕ) → ℕ → Type 0
 SaysDeliveryTimeout = SaysSecondsOr delivery_seconds
 
+-- a number of event reports below 2^32, in decimal digits, with or without a + in front
+pub record SaysReports (word : List ℕ) (count : ℕ) : Type 0 where
+  pub numeral : IsNumeral 10 (without_leading_plus word)
+  pub value : count ≡ digits_value 10 (without_leading_plus word)
+  pub fits : count < 2 ^ 32
+
+-- the number of event reports that may wait for one watcher, by this word or by default
+abbrev pub SaysWaiting : Option (List ℕ) → ℕ → Type 0
+SaysWaiting None count = count ≡ default_waiting
+SaysWaiting (Some word) count = SaysReports word count
+
 -- the number of records appended to the store before it is compacted, in decimal digits, with or without a + in front
 pub record SaysCompactAt (word : List ℕ) (count : ℕ) : Type 0 where
   pub numeral : IsNumeral 10 (without_leading_plus word)
@@ -110,11 +124,24 @@ abbrev pub ending_of : Bool → List ℕ
 ending_of true = codes ",lock"
 ending_of false = []
 
--- an address, and whether the peer may lock steps
+-- what stands in the place of an address for a peer that is never connected to
+abbrev pub nowhere : List ℕ
+nowhere = codes "-"
+
+-- where a peer listens: at an address, or nowhere
+abbrev pub IsListening : List ℕ → Type 0
+IsListening text = (text ≡ nowhere) ⊎ IsAddress text
+
+-- where a peer listens, and whether it may lock steps
 pub record SaysLock (text : List ℕ) (lock : Bool) : Type 0 where
   pub address : List ℕ
   pub parts : text ≡ address ++ ending_of lock
-  pub is_address : IsAddress address
+  pub is_place : IsListening address
+
+-- the text with its ending taken off, and whether it was `,lock`: what says where a peer listens stands there
+pub record CutsLock (text place : List ℕ) (lock : Bool) : Type 0 where
+  pub parts : text ≡ place ++ ending_of lock
+  pub only : (marked : Bool) (says : SaysLock text marked) → says.address ≡ place
 
 -- an address, with its host and its port
 pub record SaysAddress (text host : List ℕ) (port : ℕ) : Type 0 where
@@ -122,13 +149,17 @@ pub record SaysAddress (text host : List ℕ) (port : ℕ) : Type 0 where
   pub is_host : host ≡ is_address.host
   pub is_port : port ≡ digits_value 10 is_address.port
 
--- the address of a peer, with its host and its port, and whether the peer may lock steps
-pub record SaysPlace (text host : List ℕ) (port : ℕ) (lock : Bool) : Type 0 where
-  pub says : SaysLock text lock
-  pub is_host : host ≡ says.is_address.host
-  pub is_port : port ≡ digits_value 10 says.is_address.port
+-- the text says that a peer listens at this host and port, or nowhere
+abbrev pub SaysWhere : List ℕ → Option (List ℕ × ℕ) → Type 0
+SaysWhere text None = text ≡ nowhere
+SaysWhere text (Some place) = SaysAddress text place.0 place.1
 
--- the word names a peer: a title, =, and an address with its ending; the first = ends the title
+-- where a peer listens, with its host and its port, and whether the peer may lock steps
+pub record SaysPlace (text : List ℕ) (place : Option (List ℕ × ℕ)) (lock : Bool) : Type 0 where
+  pub says : SaysLock text lock
+  pub is_there : SaysWhere says.address place
+
+-- the word names a peer: a title, =, and where it listens, with its ending; the first = ends the title
 pub record NamesPeer (word : List ℕ) (peer : Peer) : Type 0 where
   pub title : List ℕ
   pub rest : List ℕ
@@ -137,15 +168,18 @@ pub record NamesPeer (word : List ℕ) (peer : Peer) : Type 0 where
   pub spells : SpellsAe title peer.ae
   pub says : SaysLock rest peer.lock
 
--- the word names a peer, and the host and the port where it listens
-pub record NamesPlace (word : List ℕ) (peer : Peer) (host : List ℕ) (port : ℕ) : Type 0 where
+-- the word names a peer, and the host and the port where it listens, if it does
+pub record NamesPlace (word : List ℕ) (peer : Peer) (place : Option (List ℕ × ℕ)) : Type 0 where
   pub names : NamesPeer word peer
-  pub is_host : host ≡ names.says.is_address.host
-  pub is_port : port ≡ digits_value 10 names.says.is_address.port
+  pub is_there : SaysWhere names.says.address place
+
+-- the host and the port of a watcher's address
+abbrev pub listens_at : Option WatcherAddress → Option (List ℕ × ℕ)
+listens_at = option_map (λ a. (string_bytes a.host, a.port))
 
 -- the word names a watcher: the title of a peer, and where it listens
 abbrev pub NamesWatcher : List ℕ → Watcher → Type 0
-NamesWatcher word watcher = (lock : Bool) × NamesPlace word (record { ae = watcher.ae; lock = lock }) (string_bytes watcher.host) watcher.port
+NamesWatcher word watcher = (lock : Bool) × NamesPlace word (record { ae = watcher.ae; lock = lock }) (listens_at watcher.address)
 
 -- each word names the item at its place, and there are as many items as words
 abbrev pub EachNames : {P : Type 0} → (List ℕ → P → Type 0) → List (List ℕ) → List P → Type 0
@@ -165,9 +199,14 @@ abbrev pub says_nothing : List ℕ → Bool
 says_nothing [] = true
 says_nothing (c ∷ cs) = nat_eq c 35
 
+-- whether the host where a peer listens has white space
+abbrev pub is_spaced : Option (List ℕ × ℕ) → Bool
+is_spaced None = false
+is_spaced (Some place) = list_any is_ascii_whitespace place.0
+
 -- the text names a peer whose host has white space, or has none
 abbrev pub NamesSpaced : List ℕ → Bool → Type 0
-NamesSpaced text spaced = (peer : Peer) × (host : List ℕ) × (port : ℕ) × NamesPlace text peer host port × (list_any is_ascii_whitespace host ≡ spaced)
+NamesSpaced text spaced = (peer : Peer) × (place : Option (List ℕ × ℕ)) × NamesPlace text peer place × (is_spaced place ≡ spaced)
 
 -- what a line of a file of peers says, without the white space at its ends: nothing; or it is a word that names a peer, whose
 -- host has no white space; or it is neither
@@ -230,12 +269,37 @@ FailToLimit found faults.Associations = (count : ℕ) → SaysWorkersOrNot (firs
 FailToLimit found faults.Idle = (idle : ℕ) → SaysIdle (first_value found (codes "idle")) idle → ⊥
 FailToLimit found faults.Timeout = (timeout : ℕ) → SaysTimeout (first_value found (codes "timeout")) timeout → ⊥
 FailToLimit found faults.DeliveryTimeout = (timeout : ℕ) → SaysDeliveryTimeout (first_value found (codes "delivery-timeout")) timeout → ⊥
+FailToLimit found faults.Waiting = (count : ℕ) → SaysWaiting (first_value found (codes "waiting")) count → ⊥
 FailToLimit found faults.CompactAt = (count : ℕ) → SaysCompactAtOrNot (first_value found (codes "compact-at")) count → ⊥
 FailToLimit found fault = ⊥
 
--- why the words ask nothing of `serve`: the word after `--ae` spells no AE title, or that after `--port` says no port; the
--- words say no limits; or they fail like those of `script`
+-- the name of the file at a path, without its folder
+abbrev pub name_at : List ℕ → List ℕ
+name_at path = unwrap_or (path_file_name path) path
+
+-- whether a name begins with one text, and goes on with another to its end
+abbrev pub goes_on_with : List ℕ → List ℕ → List ℕ → Bool
+goes_on_with start ending name = starts_with nat_eq name start && pointwise nat_eq (drop (length start) name) ending
+
+-- whether a name is that of a file of the store with this name: its file, the log beside it, the memory beside that, and its terms
+abbrev pub is_of_store : List ℕ → List ℕ → Bool
+is_of_store store name = goes_on_with store [] name || (goes_on_with store (codes "-wal") name || (goes_on_with store (codes "-shm") name || goes_on_with store (codes "-terms") name))
+
+-- whether a file for numbers is apart from a store: neither its name, nor that of the file beside it into which they are written
+-- first, is that of a file of the store
+abbrev pub are_apart : List ℕ → List ℕ → Bool
+are_apart store metrics = not (is_of_store (name_at store) (name_at metrics)) && not (goes_on_with (name_at metrics) (codes ".new") (name_at store))
+
+-- whether numbers leave the store alone: where both are asked for, they are apart
+abbrev pub leave_alone : Option (List ℕ) → Option (List ℕ) → Bool
+leave_alone (Some store) (Some metrics) = are_apart store metrics
+leave_alone (Some store) None = true
+leave_alone None metrics = true
+
+-- why the words ask nothing of `serve`: the word after `--ae` spells no AE title, or that after `--port` says no port; the file
+-- for numbers is not apart from the store; the words say no limits; or they fail like those of `script`
 abbrev pub FailToAskServe : Found → ArgumentFault → Type 0
 FailToAskServe found faults.Ae = SpellsNoTitle found
 FailToAskServe found faults.Port = (port : ℕ) → SaysPort (unwrap_or (first_value found (codes "port")) []) port → ⊥
+FailToAskServe found faults.Metrics = leave_alone (first_value found (codes "store")) (first_value found (codes "metrics")) ≡ false
 FailToAskServe found fault = FailToLimit found fault ⊎ FailToAskScript found fault

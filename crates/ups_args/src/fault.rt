@@ -42,9 +42,15 @@ pub enum ArgumentFault<'a> {
     /// The word after `--delivery-timeout` is not a number of seconds.
     #[error("--delivery-timeout takes a number of seconds, from 0 to 4294967295; 0 stands for an hour")]
     DeliveryTimeout,
+    /// The word after `--waiting` is not a number of event reports.
+    #[error("--waiting takes a number of event reports, from 0 to 4294967295; 0 stands for no limit")]
+    Waiting,
     /// The word after `--compact-at` is not a number of requests.
     #[error("--compact-at takes a number of requests, from 1 to 1000000000")]
     CompactAt,
+    /// The word after `--metrics` names a file of the store, or one beside which the numbers would be written into it.
+    #[error("--metrics takes a file apart from the store: its name, and that with .new behind it, may not be that of --store, nor that with -wal, -shm or -terms behind it")]
+    Metrics,
     /// Memory ran out.
     #[error("out of memory")]
     Memory,

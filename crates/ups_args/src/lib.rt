@@ -21,6 +21,6 @@ pub use fault::ArgumentFault;
 pub use init::{InitArguments, init_arguments};
 pub use peers::{PeerLine, peer_line};
 pub use pipe::{PipeArguments, pipe_arguments};
-pub use program::{VERSION, command};
+pub use program::{VERSION, command, provenance};
 pub use script::{ScriptArguments, script_arguments};
 pub use server::{ServeArguments, serve_arguments};

@@ -1,10 +1,10 @@
 //! The application entities that may watch steps, and where each of them listens.
 
-ghost use Rattle.std.specs.Prelude.{◌≡◌, ◌≤◌, Bool, List, false, length, map, IfErr, IfOk, MatchOption};
+ghost use Rattle.std.specs.Prelude.{◌≡◌, ◌≤◌, Bool, List, false, length, map, option_map, IfErr, IfOk, MatchOption};
 ghost use Rattle.std.specs.Char.{is_ascii_whitespace};
 ghost use Rattle.std.specs.List.{list_any};
 ghost use Rattle.std.specs.Str.{trim};
-ghost use Rattle.ups_args.specs.Arguments.{FailToName, NamePeers, NamesPeer, NamesPlace, NameWatchers, SaysLine, SaysLock, SaysPlace, says_nothing};
+ghost use Rattle.ups_args.specs.Arguments.{CutsLock, FailToName, NamePeers, NamesPeer, NamesPlace, NameWatchers, SaysLine, SaysLock, SaysPlace, is_spaced, listens_at, says_nothing};
 ghost use Rattle.ups_life.specs.declared.peer.Peer.{Peer};
 ghost use Rattle.ups_life.specs.Limits.{peer_limit};
 ghost use Rattle.ups_settings.specs.Refusal.{is_named, is_twice};
@@ -17,14 +17,14 @@ use clap::{Arg, ArgAction, Command};
 use std::alloc::{AllocError, Allocator, Global};
 use ups_life::{MAX_PEERS, Peer};
 use ups_pdu::Ae;
-use ups_peers::Watcher;
+use ups_peers::{Watcher, WatcherAddress};
 
 /// Returns the argument for the words that name peers.
 fn peer_words<'a>(alloc: Global) -> Arg<'a> {
     Arg::new(alloc, "peer")
         .value_name("PEER")
         .help(
-            "an application entity that may watch steps, and gets its reports there: AE=host:port or AE=host:port,lock",
+            "an application entity that may watch steps, and gets its reports there: AE=host:port or AE=host:port,lock; AE=- or AE=-,lock for one that is gone",
         )
         .action(ArgAction::Append)
 }
@@ -41,29 +41,44 @@ pub(crate) fn with_peers<'a>(
         .arg(peer_words(alloc))
 }
 
-/// Returns the address of a peer, and whether the peer may lock steps: `,lock` after the address allows that. Returns
-/// None if the text is not an address.
-fn lock_of<'a>(text: &'a str) -> Option<(Address<'a>, bool)>
-    ensures { MatchOption result ((lock : Bool) → SaysLock text.now lock → ⊥) (λ r. SaysPlace text.now r.0.host.now r.0.port r.1) }
+/// What stands in the place of an address for a peer that is never connected to.
+const NOWHERE: &str = "-";
+
+/// Returns where a text says that a peer listens, and whether the peer may lock steps: `,lock` at the end allows that.
+fn lock_cut<'a>(text: &'a str) -> (&'a str, bool)
+    ensures { CutsLock text.now result.0.now result.1 }
 {
-    if let Some(front) = text.strip_suffix(",lock") {
-        let address = address_of(front)?;
-        return Some((address, true));
+    match text.strip_suffix(",lock") {
+        Some(front) => (front, true),
+        None => (text, false),
     }
-    let address = address_of(text)?;
-    Some((address, false))
 }
 
-/// A peer, and where it listens.
+/// Returns the address of a peer, if it has one, and whether the peer may lock steps. Returns None if the text is neither
+/// an address nor `-`, with or without `,lock`.
+#[tactic(auto, using(crate::proofs::Parts::placed))]
+fn lock_of<'a>(text: &'a str) -> Option<(Option<Address<'a>>, bool)>
+    ensures { MatchOption result ((lock : Bool) → SaysLock text.now lock → ⊥) (λ r. SaysPlace text.now (option_map (λ a. (a.host.now, a.port)) r.0) r.1) }
+{
+    let (place, lock) = lock_cut(text);
+    if place == NOWHERE {
+        return Some((None, lock));
+    }
+    let address = address_of(place)?;
+    Some((Some(address), lock))
+}
+
+/// A peer, and where it listens, if it does.
 #[derive(Clone, Copy)]
 struct PeerWord<'a> {
     peer: Peer,
-    address: Address<'a>,
+    address: Option<Address<'a>>,
 }
 
-/// Parses a peer and where it listens, as `AE=host:port` or `AE=host:port,lock`. The first `=` ends the title.
+/// Parses a peer and where it listens, as `AE=host:port` or `AE=host:port,lock`, or with `-` for the address of one that is
+/// never connected to. The first `=` ends the title.
 fn peer_word_of<'a>(word: &'a str) -> Option<PeerWord<'a>>
-    ensures { MatchOption result ((peer : Peer) → NamesPeer word.now peer → ⊥) (λ p. NamesPlace word.now p.peer p.address.host.now p.address.port) }
+    ensures { MatchOption result ((peer : Peer) → NamesPeer word.now peer → ⊥) (λ p. NamesPlace word.now p.peer (option_map (λ a. (a.host.now, a.port)) p.address)) }
 {
     let (title, rest) = word.split_once('=')?;
     let ae = Ae::of(title.as_bytes())?;
@@ -111,6 +126,22 @@ fn is_named(peers: &[Peer], ae: Ae) -> bool
     peers.iter().any(|peer| peer.ae == ae)
 }
 
+/// Returns the address of a watcher as the server keeps it.
+///
+/// Errors: lack of memory.
+fn kept_address<'a>(
+    alloc: Global,
+    address: Option<Address<'a>>,
+) -> Result<Option<WatcherAddress>, AllocError>
+    ensures { IfOk result (λ kept. listens_at kept ≡ option_map (λ a. (a.host.now, a.port)) address.entry) }
+{
+    let Some(Address { host, port }) = address else {
+        return Ok(None);
+    };
+    let host = host.to_string(alloc)?;
+    Ok(Some(WatcherAddress { host, port }))
+}
+
 /// Parses the words that name peers as watchers: the titles of the peers, and where they listen.
 ///
 /// Errors: Peer for the first word that names none; lack of memory.
@@ -128,8 +159,7 @@ pub(crate) fn watchers_of<'a>(
         };
         watchers.push(Watcher {
             ae: place.peer.ae,
-            host: place.address.host.to_string(alloc)?,
-            port: place.address.port,
+            address: kept_address(alloc, place.address)?,
         })?;
     }
     Ok(watchers)
@@ -163,6 +193,16 @@ fn has_space(text: &str) -> bool
     text.as_bytes().iter().any(|b| b.is_ascii_whitespace())
 }
 
+/// Returns whether the host of an address has white space.
+fn is_spaced(address: Option<Address<'_>>) -> bool
+    ensures { result ≡ is_spaced (option_map (λ a. (a.host.now, a.port)) address.entry) }
+{
+    match address {
+        Some(address) => has_space(address.host),
+        None => false,
+    }
+}
+
 /// Returns what a line of a file of peers says, without the white space at its ends. A host has no white space: two words
 /// on a line would be a peer.
 pub fn peer_line(line: &str) -> PeerLine<'_>
@@ -175,7 +215,7 @@ pub fn peer_line(line: &str) -> PeerLine<'_>
     let Some(PeerWord { peer: _, address }) = peer_word_of(word) else {
         return PeerLine::Other;
     };
-    if has_space(address.host) {
+    if is_spaced(address) {
         return PeerLine::Other;
     }
     PeerLine::Peer(word)

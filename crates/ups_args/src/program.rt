@@ -9,7 +9,17 @@ use clap::Command;
 use std::alloc::{AllocError, Global};
 
 /// The version of `upsd`. Its implementation version name (`ups_assoc::version_name`) does not follow it.
-pub const VERSION: &str = "0.2.0";
+pub const VERSION: &str = "0.3.0";
+
+/// The commit that the program was built from, and whether all of it was proved. `packaging/build` puts the true text, of the
+/// same length, in the place of this one in a program that was proved; so this one stands once in a program, and nothing but
+/// printing depends on it.
+const PROVENANCE: &str = "commit 0000000000000000000000000000000000000000, not proved";
+
+/// Returns the commit that the program was built from, and whether all of it was proved.
+pub fn provenance() -> &'static str {
+    PROVENANCE
+}
 
 /// Adds a subcommand, unless memory ran out while it was made.
 fn with_command<'a>(

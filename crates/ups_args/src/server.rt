@@ -1,8 +1,8 @@
 //! The arguments of `serve`.
 
-ghost use Rattle.std.specs.Prelude.{◌≡◌, ◌≤◌, ℕ, [], codes, length, None, option_map, IfErr, IfOk, MatchResult, unwrap_or};
+ghost use Rattle.std.specs.Prelude.{◌≡◌, ◌≤◌, ℕ, [], codes, true, length, None, option_map, IfErr, IfOk, MatchResult, unwrap_or};
 ghost use Rattle.clap.specs.Matches.{first_value, found_of};
-ghost use Rattle.ups_args.specs.Arguments.{FailToAskServe, FailToLimit, IsFlag, NamePeers, NameWatchers, SaysBind, SaysCompactAt, SaysCompactAtOrNot, SaysDeliveryTimeout, SaysIdle, SaysKeep, SaysOffset, SaysPort, SaysTimeout, SaysWorkers, SaysWorkersOrNot, argument_words};
+ghost use Rattle.ups_args.specs.Arguments.{FailToAskServe, FailToLimit, IsFlag, NamePeers, NameWatchers, SaysBind, SaysCompactAt, SaysCompactAtOrNot, SaysDeliveryTimeout, SaysIdle, SaysKeep, SaysOffset, SaysPort, SaysTimeout, SaysWaiting, SaysWorkers, SaysWorkersOrNot, argument_words, leave_alone};
 ghost use Rattle.ups_life.specs.Limits.{history_limit, peer_limit};
 ghost use Rattle.ups_peers.specs.Limits.{turns_limit, workers_limit};
 ghost use Rattle.ups_settings.specs.Refusal.{refusal};
@@ -12,7 +12,7 @@ use crate::fault::ArgumentFault;
 use crate::options::{flag, worded};
 use crate::peers::{watchers_of, with_peers};
 use crate::script::script_arguments;
-use crate::store::{naming_file, with_store};
+use crate::store::{metrics_asked, naming_file, with_store};
 use crate::times::{seconds_asked, with_times};
 use crate::title::{ae_of, ae_word};
 use clap::{ArgMatches, Command};
@@ -21,7 +21,7 @@ use ups_life::Peer;
 use ups_pdu::Ae;
 use ups_peers::{
     COMPACT_AT, DELIVERY_TIMEOUT, IDLE, MAX_COMPACT_AT, MAX_WORKERS, ServerLimits, TIMEOUT, TURNS,
-    WORKERS, Watcher,
+    WAITING, WORKERS, Watcher,
 };
 use ups_terms::StartChoices;
 
@@ -57,9 +57,12 @@ fn with_limits<'a>(alloc: Global, command: Command<'a>) -> Result<Command<'a>, A
         "how long a peer may take to send a message, or to take an answer, 0 for any time [default: 60]";
     let delivery =
         "how long a watcher may take to be connected to, and for each answer, 0 for an hour [default: 5]";
+    let waiting =
+        "how many reports may wait for one watcher before the oldest are given up, 0 for any number [default: 500000]";
     command
         .arg(worded(alloc, "timeout", "SECONDS", timeout))?
-        .arg(worded(alloc, "delivery-timeout", "SECONDS", delivery))
+        .arg(worded(alloc, "delivery-timeout", "SECONDS", delivery))?
+        .arg(worded(alloc, "waiting", "REPORTS", waiting))
 }
 
 /// Adds the options of a server for its address, its associations and deliveries, and its log.
@@ -126,6 +129,20 @@ fn workers_asked(word: Option<&str>) -> Result<u32, ArgumentFault<'_>>
     }
 }
 
+/// Returns how many event reports may wait for one watcher, from the word after `--waiting`, or 500,000 without one; 0 means
+/// no limit.
+///
+/// Errors: Waiting if the word is not a number below 2^32.
+fn waiting_asked(word: Option<&str>) -> Result<u32, ArgumentFault<'_>>
+    ensures said { MatchResult result (SaysWaiting (option_map (λ w. w.now) word.entry)) (λ _. (count : ℕ) → SaysWaiting (option_map (λ w. w.now) word.entry) count → ⊥) }
+    ensures fault { IfErr result (λ fault. fault ≡ ArgumentFault.Waiting) }
+{
+    match word {
+        Some(word) => word.parse::<u32>().or(Err(ArgumentFault::Waiting)),
+        None => Ok(WAITING),
+    }
+}
+
 /// Parses the number of records that the store takes before it is compacted.
 ///
 /// Errors: CompactAt if it is not a number from 1 to 1,000,000,000.
@@ -168,15 +185,17 @@ fn bind_asked<'a>(word: Option<&'a str>) -> &'a str
 /// An association may be silent between two messages for the seconds of the word after `--idle`, or 60 without one. A
 /// peer may take those of the word after `--timeout`, or 60 without one, for each message that it has begun to send, and
 /// to take each answer. In both, 0 means no limit. A watcher may take those of the word after `--delivery-timeout`, or 5
-/// without one; 0 means an hour for each answer, and ten seconds if it is neither away nor slow.
+/// without one; 0 means an hour for each answer, and ten seconds if it is neither away nor slow. As many event reports may
+/// wait for it as the word after `--waiting` says.
 ///
-/// Errors: Associations, Idle, Timeout, DeliveryTimeout or CompactAt for the first of these words that is invalid.
+/// Errors: Associations, Idle, Timeout, DeliveryTimeout, Waiting or CompactAt for the first of these words that is invalid.
 fn limits_asked<'a>(matches: &ArgMatches<'a>) -> Result<ServerLimits, ArgumentFault<'a>>
     ensures workers { IfOk result (λ limits. SaysWorkersOrNot (first_value (found_of matches.now) (codes "associations")) limits.workers) }
     ensures turns { IfOk result (λ limits. limits.turns ≡ turns_limit) }
     ensures idle { IfOk result (λ limits. SaysIdle (first_value (found_of matches.now) (codes "idle")) limits.idle) }
     ensures timeout { IfOk result (λ limits. SaysTimeout (first_value (found_of matches.now) (codes "timeout")) limits.timeout) }
     ensures delivery_timeout { IfOk result (λ limits. SaysDeliveryTimeout (first_value (found_of matches.now) (codes "delivery-timeout")) limits.delivery_timeout) }
+    ensures waiting { IfOk result (λ limits. SaysWaiting (first_value (found_of matches.now) (codes "waiting")) limits.waiting) }
     ensures compact_at { IfOk result (λ limits. SaysCompactAtOrNot (first_value (found_of matches.now) (codes "compact-at")) limits.compact_at) }
     ensures some { IfOk result (λ limits. 1 ≤ limits.workers) }
     ensures most { IfOk result (λ limits. limits.workers ≤ workers_limit) }
@@ -192,6 +211,7 @@ fn limits_asked<'a>(matches: &ArgMatches<'a>) -> Result<ServerLimits, ArgumentFa
             DELIVERY_TIMEOUT,
             ArgumentFault::DeliveryTimeout,
         )?,
+        waiting: waiting_asked(matches.get_str("waiting"))?,
         compact_at: compact_at_asked(matches.get_str("compact-at"))?,
     })
 }
@@ -251,6 +271,7 @@ pub fn serve_arguments<'a>(
     ensures idle { IfOk result (λ asked. SaysIdle (first_value (found_of matches.now) (codes "idle")) asked.limits.idle) }
     ensures timeout { IfOk result (λ asked. SaysTimeout (first_value (found_of matches.now) (codes "timeout")) asked.limits.timeout) }
     ensures delivery_timeout { IfOk result (λ asked. SaysDeliveryTimeout (first_value (found_of matches.now) (codes "delivery-timeout")) asked.limits.delivery_timeout) }
+    ensures waiting { IfOk result (λ asked. SaysWaiting (first_value (found_of matches.now) (codes "waiting")) asked.limits.waiting) }
     ensures compact_at { IfOk result (λ asked. SaysCompactAtOrNot (first_value (found_of matches.now) (codes "compact-at")) asked.limits.compact_at) }
     ensures store { IfOk result (λ asked. option_map (λ w. w.now) asked.store ≡ first_value (found_of matches.now) (codes "store")) }
     ensures leave_out { IfOk result (λ asked. IsFlag (found_of matches.now) (codes "store-leave-out") asked.choices.may_leave_out) }
@@ -260,6 +281,7 @@ pub fn serve_arguments<'a>(
     ensures verbose { IfOk result (λ asked. IsFlag (found_of matches.now) (codes "verbose") asked.verbose) }
     ensures audit { IfOk result (λ asked. IsFlag (found_of matches.now) (codes "audit") asked.audit) }
     ensures metrics { IfOk result (λ asked. option_map (λ w. w.now) asked.metrics ≡ first_value (found_of matches.now) (codes "metrics")) }
+    ensures apart { IfOk result (λ _. leave_alone (first_value (found_of matches.now) (codes "store")) (first_value (found_of matches.now) (codes "metrics")) ≡ true) }
     ensures some { IfOk result (λ asked. 1 ≤ asked.limits.workers) }
     ensures most { IfOk result (λ asked. asked.limits.workers ≤ workers_limit) }
     ensures few { IfOk result (λ asked. length asked.peers.items ≤ peer_limit) }
@@ -271,6 +293,8 @@ pub fn serve_arguments<'a>(
     let service = script_arguments(alloc, matches)?;
     let watchers = watchers_of(alloc, matches.get_strs("peer").unwrap_or(&[]))?;
     let limits = limits_asked(matches)?;
+    let store = matches.get_str("store");
+    let metrics = metrics_asked(store, matches.get_str("metrics"))?;
     Ok(ServeArguments {
         ae,
         bind: bind_asked(matches.get_str("bind")),
@@ -280,7 +304,7 @@ pub fn serve_arguments<'a>(
         keep: service.keep,
         offset: service.offset,
         limits,
-        store: matches.get_str("store"),
+        store,
         choices: StartChoices {
             may_leave_out: matches.get_flag("store-leave-out"),
             may_compact: matches.get_flag("compact"),
@@ -289,6 +313,6 @@ pub fn serve_arguments<'a>(
         check: matches.get_flag("check"),
         verbose: matches.get_flag("verbose"),
         audit: matches.get_flag("audit"),
-        metrics: matches.get_str("metrics"),
+        metrics,
     })
 }

@@ -122,7 +122,9 @@ impl<K: Keeping> Commits<K> {
     }
 
     /// Returns the number of committed entries, or None if nothing is kept.
-    pub fn kept(&self) -> Option<u64> {
+    pub fn kept(&self) -> Option<u64>
+        ensures { IfSome result (λ count. IsBacked K.had count) }
+    {
         match self.count() {
             ALL => None,
             count => Some(count),

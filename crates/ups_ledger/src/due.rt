@@ -70,7 +70,7 @@ impl<D: Noted> CommitDue<D> {
     }
 
     /// Notes that so many more entries must be committed.
-    pub fn note(&mut self, share: &mut Share<D>, more: u64)
+    pub(crate) fn note(&mut self, share: &mut Share<D>, more: u64)
         requires { 0 < share.old.parts }
         ensures amount { share.new.amount ≡ share.old.amount + more }
         ensures parts { share.new.parts ≡ share.old.parts }

@@ -49,6 +49,14 @@ impl<'a, F: Fixed, D: Noted, M: SharedService<Global>, R: Wait> Withheld<'a, F, 
         }
     }
 
+    /// Returns the number of entries of the history that the pass has seen: those by which it answered last, with its own
+    /// request if that was accepted.
+    pub fn seen(&self) -> u64
+        ensures { result ≡ length self.now.seated.pass.seen }
+    {
+        self.seated.seen()
+    }
+
     /// Returns the inner pass, and the share with what was noted.
     pub fn into_parts(self) -> (Seated<'a, F, M, Global, R>, Share<D>)
         ensures seated { result.0 ≡ self.entry.seated }

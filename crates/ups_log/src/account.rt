@@ -1,6 +1,7 @@
 //! An association that a peer requested, as the log sees it.
 
 use crate::failures::is_failure;
+use crate::first_bytes::FirstBytes;
 use crate::journal::{
     Because, Overrun, Time, name_with, operation_of, reason_in, reason_of, title_of, warn_of,
 };
@@ -109,6 +110,8 @@ pub struct Account<'a> {
     /// The counts of the server.
     tally: &'a Tally,
     alloc: Global,
+    /// The first bytes that were read.
+    first: RefCell<FirstBytes>,
     /// How lines name the association, once its calling AE title is known: they are many, and the text stays the same.
     name: RefCell<String>,
     /// The calling AE title, if it is known, and the called one.
@@ -155,6 +158,7 @@ impl<'a> Account<'a> {
             is_verbose,
             tally,
             alloc,
+            first: RefCell::new(FirstBytes::new()),
             name: RefCell::new(String::new(alloc)),
             calling: Cell::new(None),
             called: Cell::new(None),
@@ -167,11 +171,26 @@ impl<'a> Account<'a> {
         }
     }
 
-    /// Learns the calling and the called AE title from bytes that were read.
+    /// Learns the calling and the called AE title from the first bytes that are read, in however many reads they come.
+    /// Later bytes name nobody.
     pub fn hear(&self, bytes: &[u8]) {
-        if !self.is_answered.get() && self.calling.get().is_none() {
-            self.calling.set(calling_title(bytes));
-            self.called.set(called_title(bytes));
+        if self.is_answered.get() {
+            return;
+        }
+        let Ok(mut first) = self.first.try_borrow_mut() else {
+            return;
+        };
+        if first.add(bytes) {
+            self.called.set(called_title(first.as_slice()));
+            self.calling.set(calling_title(first.as_slice()));
+            self.keep_name();
+        }
+    }
+
+    /// Learns the title under which the service answers the peer: later lines name the association by it.
+    pub fn know(&self, ae: Ae) {
+        if self.calling.get() != Some(ae) {
+            self.calling.set(Some(ae));
             self.keep_name();
         }
     }
@@ -189,13 +208,13 @@ impl<'a> Account<'a> {
     /// Keeps the name for the lines to come, if the calling AE title is known. If memory runs out, each line makes it anew.
     #[cold]
     fn keep_name(&self) {
-        if self.calling.get().is_none() {
+        let Ok(mut name) = self.name.try_borrow_mut() else {
             return;
-        }
-        if let (Ok(text), Ok(mut name)) = (
-            format!(in self.alloc; "{self}"),
-            self.name.try_borrow_mut(),
-        ) {
+        };
+        name.clear();
+        if self.calling.get().is_some()
+            && let Ok(text) = format!(in self.alloc; "{self}")
+        {
             *name = text;
         }
     }
@@ -208,20 +227,6 @@ impl<'a> Account<'a> {
     /// Notes which limit the peer ran into, if any.
     pub fn note_overrun(&self, overrun: Option<Overrun>) {
         self.overrun.set(overrun);
-    }
-
-    /// Returns whether a request was answered.
-    pub fn has_asked(&self) -> bool {
-        self.requests.get() > 0
-    }
-
-    /// Returns how many associations in a row, including this one, kept a worker waiting until they made way or ran
-    /// into a limit; `before` is the number of those before it.
-    pub fn in_row(&self, before: u32) -> u32 {
-        match self.overrun.get() {
-            Some(_) => before.saturating_add(1),
-            None => 0,
-        }
     }
 
     /// Learns from a PDU that is sent how the peer is answered, and may log the answer.

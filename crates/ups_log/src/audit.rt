@@ -220,8 +220,17 @@ impl<'a> fmt::Display for Done<'a> {
     }
 }
 
-/// Logs what was done for the peer of an association, unless the reply refuses it.
-pub fn tell_done<R: Log>(rt: &R, account: &Account<'_>, asked: &AuditedAsk, reply: &Reply<Global>) {
+/// Tells the account of an association under which title the service knows the peer, and logs what was done for it, unless
+/// the reply refuses it. `number` is the number of accepted requests behind the answer: of an accepted request, its own.
+pub fn tell_done<R: Log>(
+    rt: &R,
+    account: &Account<'_>,
+    ae: Ae,
+    number: u64,
+    asked: &AuditedAsk,
+    reply: &Reply<Global>,
+) {
+    account.know(ae);
     let Some(acceptance) = acceptance_of(reply) else {
         return;
     };
@@ -233,15 +242,16 @@ pub fn tell_done<R: Log>(rt: &R, account: &Account<'_>, asked: &AuditedAsk, repl
     let status = acceptance.status.code();
     let deed = &asked.deed;
     let done = Done { deed, acceptance };
-    info!(rt; target: "upsd", "audit: {name} {account}, {instance}, {status:04X}{done}");
+    info!(rt; target: "upsd", "audit: {name} {account}, {instance}, {status:04X}{done}, at {number}");
 }
 
-/// Logs how many steps a sweep of the server with this title removed, if it is asked to and there are any.
-pub fn tell_swept<R: Log>(rt: &R, is_audited: bool, ae: Ae, reply: &Reply<Global>) {
+/// Logs how many steps a sweep of the server with this title removed, if it is asked to and there are any. `number` is
+/// the number of accepted requests up to the sweep.
+pub fn tell_swept<R: Log>(rt: &R, is_audited: bool, ae: Ae, number: u64, reply: &Reply<Global>) {
     match reply {
         Reply::Swept(steps) if is_audited && *steps > 0 => {
             let title = title_of(&ae);
-            info!(rt; target: "upsd", "audit: Sweep {title}, {steps} steps");
+            info!(rt; target: "upsd", "audit: Sweep {title}, {steps} steps, at {number}");
         }
         _ => {}
     }

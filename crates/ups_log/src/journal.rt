@@ -153,6 +153,12 @@ pub fn tell_crowd<R: Log>(rt: &R, watcher: Ae, crowd: usize) {
     warn!(rt; target: "upsd", "serve: over {crowd} reports wait for {title}");
 }
 
+/// Warns that `count` reports that waited for a watcher were given up.
+pub fn tell_given_up<R: Log>(rt: &R, watcher: Ae, count: u64) {
+    let title = title_of(&watcher);
+    warn!(rt; target: "upsd", "serve: {count} reports for {title} were given up in the last minute");
+}
+
 /// The result of an association with a watcher.
 #[derive(Clone, Copy)]
 pub struct Delivered {
@@ -256,6 +262,14 @@ impl Tried {
         match self {
             Tried::Unreachable(_) => false,
             Tried::Ended(delivered) => delivered.acknowledged > 0,
+        }
+    }
+
+    /// Returns how many reports were acknowledged.
+    pub fn reports(&self) -> u64 {
+        match self {
+            Tried::Unreachable(_) => 0,
+            Tried::Ended(delivered) => delivered.acknowledged,
         }
     }
 

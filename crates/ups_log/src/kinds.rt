@@ -72,6 +72,40 @@ impl RequestKind {
         }
     }
 
+    /// Returns the failure statuses with which it may be refused (PS3.7 annex C, PS3.4 CC.2 and C.4.1.1.4), as the
+    /// conformance statement lists them; none if it is not known.
+    pub fn failures(self) -> &'static [u16] {
+        match self {
+            RequestKind::Create => &[
+                0x0106, 0x0110, 0x0111, 0x0117, 0x0118, 0x0120, 0x0121, 0x0211, 0x0213, 0xC309,
+            ],
+            RequestKind::Get => &[0x0110, 0x0118, 0x0211, 0x0213, 0xC307],
+            RequestKind::Set => &[
+                0x0106, 0x0110, 0x0118, 0x0121, 0x0211, 0x0213, 0xC300, 0xC301, 0xC307, 0xC310,
+            ],
+            RequestKind::Change => &[
+                0x0110, 0x0115, 0x0118, 0x0123, 0x0211, 0x0213, 0xC300, 0xC301, 0xC302, 0xC303,
+                0xC304, 0xC307, 0xC310, 0xC314,
+            ],
+            RequestKind::Cancel => &[
+                0x0110, 0x0115, 0x0118, 0x0123, 0x0211, 0x0213, 0xC307, 0xC311, 0xC314,
+            ],
+            RequestKind::Subscribe => &[
+                0x0110, 0x0114, 0x0115, 0x0118, 0x0123, 0x0211, 0x0213, 0xC307, 0xC308,
+            ],
+            RequestKind::Unsubscribe => &[
+                0x0110, 0x0115, 0x0118, 0x0123, 0x0211, 0x0213, 0xC307, 0xC308,
+            ],
+            RequestKind::Suspend => &[
+                0x0110, 0x0115, 0x0118, 0x0123, 0x0211, 0x0213, 0xC308, 0xC314,
+            ],
+            RequestKind::Action => &[0x0110, 0x0115, 0x0118, 0x0123, 0x0211, 0x0213],
+            RequestKind::Find => &[0x0118, 0x0211, 0xA700, 0xA900, 0xC000],
+            RequestKind::Echo => &[0x0110, 0x0118, 0x0211],
+            RequestKind::Other => &[],
+        }
+    }
+
     /// Returns its name.
     pub fn name(self) -> &'static str {
         match self {
@@ -108,9 +142,10 @@ impl Drop for StatusCount {
 }
 
 impl StatusCount {
-    fn new() -> StatusCount {
+    /// Creates the count of a status, or of none yet.
+    fn new(status: Option<u16>) -> StatusCount {
         StatusCount {
-            status: AtomicU64::new(NO_STATUS),
+            status: AtomicU64::new(status.map_or(NO_STATUS, u64::from)),
             count: AtomicU64::new(0),
         }
     }
@@ -160,10 +195,12 @@ impl Drop for KindCount {
 }
 
 impl KindCount {
-    fn new(alloc: Global) -> Result<KindCount, AllocError> {
+    /// Creates the count of a kind, with 0 for each of its failure statuses, so that a monitor sees the first one.
+    fn new(alloc: Global, kind: RequestKind) -> Result<KindCount, AllocError> {
+        let failures = kind.failures();
         let mut refused = Vec::with_capacity(alloc, STATUSES)?;
-        for _ in 0..STATUSES {
-            refused.push(StatusCount::new())?;
+        for place in 0..STATUSES {
+            refused.push(StatusCount::new(failures.get(place).copied()))?;
         }
         Ok(KindCount {
             answered: AtomicU64::new(0),
@@ -188,7 +225,8 @@ impl KindCount {
         self.answered.load(Ordering::SeqCst)
     }
 
-    /// Returns how many were refused with each status, in the order in which these came.
+    /// Returns how many were refused with each status: those of the kind, and then others in the order in which these
+    /// came.
     pub fn refused(&self) -> &[StatusCount] {
         &self.refused
     }
@@ -196,6 +234,15 @@ impl KindCount {
     /// Returns how many were refused with a status that has no count of its own.
     pub fn others(&self) -> u64 {
         self.others.load(Ordering::SeqCst)
+    }
+
+    /// Returns how many were accepted: those that were answered, and not refused.
+    pub(crate) fn accepted(&self) -> u64 {
+        let mut refused = self.others();
+        for counted in self.refused.iter() {
+            refused = refused.saturating_add(counted.count());
+        }
+        self.answered().saturating_sub(refused)
     }
 }
 
@@ -213,8 +260,8 @@ impl Drop for KindCounts {
 
 fn counts_of(alloc: Global) -> Result<Vec<KindCount>, AllocError> {
     let mut counts = Vec::with_capacity(alloc, KINDS.len())?;
-    for _ in 0..KINDS.len() {
-        counts.push(KindCount::new(alloc)?)?;
+    for kind in KINDS {
+        counts.push(KindCount::new(alloc, kind)?)?;
     }
     Ok(counts)
 }

@@ -9,6 +9,7 @@ mod audit;
 mod clock;
 mod digest;
 mod failures;
+mod first_bytes;
 mod heading;
 mod journal;
 mod kinds;
@@ -25,8 +26,8 @@ pub use failures::{Failures, is_failure};
 pub use heading::LineStyle;
 pub use journal::{
     Delivered, Overrun, Tried, end_told, reason_in, tell_all_taken, tell_away, tell_back,
-    tell_compacted, tell_crowd, tell_digest, tell_recovered, tell_tried, tell_uncommitted,
-    tell_uncompacted, tell_unwritten, title_of,
+    tell_compacted, tell_crowd, tell_digest, tell_given_up, tell_recovered, tell_tried,
+    tell_uncommitted, tell_uncompacted, tell_unwritten, title_of,
 };
 pub use kinds::{KINDS, KindCount, KindCounts, RequestKind, StatusCount};
 pub use lossy_log::LossyLog;

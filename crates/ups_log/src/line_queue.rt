@@ -16,8 +16,8 @@ const MANY: usize = 512;
 const TOGETHER: usize = 4_096;
 
 /// The number of milliseconds for which the writing thread rests when it has written all lines, so that those that come
-/// meanwhile are written together, and no thread has to wake it for each.
-const REST: u64 = 5;
+/// meanwhile are written together, and no thread has to wake it for each. A signal loses the lines of as long a time.
+const REST: u64 = 1;
 
 /// The number of milliseconds between two checks whether all lines are written, and the number of checks.
 const LOOK: u64 = 10;

@@ -67,8 +67,11 @@ fn add_warned(peers: &mut Vec<String>, peer: String) -> bool {
     peers.push(peer).is_ok()
 }
 
-/// The counts of a server since its start: associations, answered requests, and refused ones. Only the log and the file
-/// of numbers depend on them.
+/// The number of steps at a start that is not known.
+const UNKNOWN: u64 = u64::MAX;
+
+/// The counts of a server since its start: associations, answered requests, refused ones, and steps. Only the log and the
+/// file of numbers depend on them.
 pub struct Tally {
     associations: AtomicU64,
     requests: AtomicU64,
@@ -83,6 +86,10 @@ pub struct Tally {
     warned: Mutex<Vec<String>>,
     /// The longest time until an answer since it was last taken, in nanoseconds.
     longest: AtomicU64,
+    /// The number of steps that were held at the start, or `UNKNOWN`.
+    begun_with: AtomicU64,
+    /// The number of steps that were removed since.
+    removed: AtomicU64,
 }
 
 impl Drop for Tally {
@@ -96,6 +103,8 @@ impl Drop for Tally {
             others: _,
             warned: _,
             longest: _,
+            begun_with: _,
+            removed: _,
         } = self;
     }
 }
@@ -112,6 +121,8 @@ impl Tally {
             others: AtomicU64::new(0),
             warned: Mutex::new(Vec::new(alloc)),
             longest: AtomicU64::new(0),
+            begun_with: AtomicU64::new(UNKNOWN),
+            removed: AtomicU64::new(0),
         }
     }
 
@@ -179,6 +190,28 @@ impl Tally {
             tell_more_refusals(rt, others);
         }
         self.warned.lock(rt).clear();
+    }
+
+    /// Notes how many steps were held at the start.
+    pub fn begin_with(&self, steps: u64) {
+        self.begun_with.store(steps, Ordering::SeqCst);
+    }
+
+    /// Counts steps that a sweep removed.
+    pub fn add_removed(&self, steps: u64) {
+        self.removed.fetch_add(steps, Ordering::SeqCst);
+    }
+
+    /// Returns how many steps are held: those of the start and those created since, without those removed. Returns None if
+    /// it isn't known how many there were, or memory ran out for the counts of requests.
+    pub fn steps(&self) -> Option<u64> {
+        let begun_with = self.begun_with.load(Ordering::SeqCst);
+        if begun_with == UNKNOWN {
+            return None;
+        }
+        let created = self.kinds.of(RequestKind::Create)?.accepted();
+        let removed = self.removed.load(Ordering::SeqCst);
+        Some(begun_with.saturating_add(created).saturating_sub(removed))
     }
 
     /// Returns how many associations have begun.

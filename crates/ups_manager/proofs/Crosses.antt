@@ -67,7 +67,7 @@ use Rattle.ups_index.specs.contracts.slot_table.SlotTable as SlotTable
 use Rattle.ups_index.specs.contracts.posts.Posts as Posts
 use Rattle.ups_index.specs.contracts.index.Index as Index
 use Rattle.ups_tables.specs.contracts.tables.Tables as Tables
-use Rattle.ups_manager.specs.contracts.reserve.Reserve as Reserve
+use Rattle.ups_manager.specs.contracts.left_memory.LeftMemory as LeftMemory
 use Rattle.ups_manager.specs.contracts.manager.Manager as Manager
 
 ruleset leaves = (fold.the_send, build.the_send, bytes.the_send, tag.the_send, vr.the_send, uid.the_send, ae.the_send, state.the_send, step.the_send, transaction.the_send, place.the_send, holder.the_send, configuration.the_send, subscription.the_send, event.the_send, kind.the_send, readiness.the_send, slot.the_send, final.the_send, post.the_send)
@@ -183,11 +183,11 @@ module _ (A : RattleType) (g : Allocator.Ghosts A.Denot) where
 -- THE MANAGER
 
 module _ (A : RattleType) (g : Allocator.Ghosts A.Denot) where
-  Reserve-send : IsSend A → Frees g g.dealloc_token → IsSend (Reserve.the_field A g).row
-  Reserve-send s f = search (sendable, over.crosses) depth 20
+  LeftMemory-send : IsSend A → Frees g g.dealloc_token → IsSend (LeftMemory.the_field A g).row
+  LeftMemory-send s f = search (sendable, over.crosses) depth 20
 
   pub Manager-send : IsSend A → Frees g g.dealloc_token → IsSend (Manager.the_row A g)
-  Manager-send s f = let e = History-send A g s f in let t = Tables-send A g s f in let o = Configuration-send A g s f in let i = Index-send A g s f in let r = Reserve-send s f in search sendable depth 20
+  Manager-send s f = let e = History-send A g s f in let t = Tables-send A g s f in let o = Configuration-send A g s f in let i = Index-send A g s f in let r = LeftMemory-send s f in search sendable depth 20
 
 -- at the heap, in one step
 pub manager_send : IsSend (Manager.the_row Heap.the_row ghosts)

@@ -6,6 +6,7 @@ use Rattle.std.proofs.lemmas.Bool.Decides.{nat_tests}
 use Rattle.std.proofs.lemmas.List.Elements.{All-take}
 use Rattle.ups_life.specs.declared.entry.Entry.{Entry}
 use Rattle.ups_life.specs.declared.event.Event.{Event}
+use Rattle.ups_life.specs.Limits.{history_limit}
 use Rattle.ups_life.specs.Settings.{Settings}
 use Rattle.ups_life.specs.Steps.{past}
 use Rattle.ups_life.specs.Events.{pending}
@@ -35,12 +36,14 @@ module _ {A : Type 0} (s : Settings) (old new : HistoryView A) where
   remembers_same same kept r = record {
     within = let low = r.within in let first = kept.0 in let long = ap length same in omega (arith, low, first, long);
     told = λ w x in'. stays kept x.entry (r.told w x (subst (λ (es : List (Entry A)). Contains (pending s (past es) w) x) same in'));
+    all = λ few. kept.0 ∙ r.all few;
   }
 
   pub remembers_more : (call : Entry A) → legal s (call ∷ past old.entries) ≡ true → new.entries ≡ old.entries ++ call ∷ [] → KeepsMemory old new → Remembers s old → Remembers s new
   remembers_more call l more kept r = record {
     within = let low = r.within in let first = kept.0 in let long = ap length more ∙ length-append old.entries (call ∷ []) in omega (arith, low, first, long);
     told = λ w x in'. at w x (still_pending s call (past old.entries) w x l (subst (λ (es : List (Entry A)). Contains (pending s es w) x) (ap past more ∙ past-push old.entries call) in'));
+    all = λ few. kept.0 ∙ r.all few;
   }
     where
       at : (w : List ℕ) (x : Event) → (x.entry ≡ length (past old.entries)) ⊎ Contains (pending s (past old.entries) w) x → is_in_memory new x.entry ≡ true
@@ -54,14 +57,17 @@ pub remembers_nothing : {A : Type 0} (s : Settings) (h : HistoryView A) → h.en
 remembers_nothing {A} s h none zero = record {
   within = omega (arith, zero);
   told = λ w x in'. absurd (none_in_nil x (subst (λ (es : List (Entry A)). Contains (pending s (past es) w) x) none in'));
+  all = λ few. zero;
 }
 
 -- what is in memory of the entries of pending events stays, whatever else leaves
 pub remembers_all : {A : Type 0} (s : Settings) (old new : HistoryView A) → new.entries ≡ old.entries → new.first ≤ length new.entries
-    → ((w : List ℕ) (x : Event) → Contains (pending s (past old.entries) w) x → is_in_memory old x.entry ≡ true → is_in_memory new x.entry ≡ true) → Remembers s old → Remembers s new
-remembers_all {A} s old new same within stays r = record {
+    → ((w : List ℕ) (x : Event) → Contains (pending s (past old.entries) w) x → is_in_memory old x.entry ≡ true → is_in_memory new x.entry ≡ true)
+    → (s.limit ≤ history_limit → old.first ≡ 0 → new.first ≡ 0) → Remembers s old → Remembers s new
+remembers_all {A} s old new same within stays all r = record {
   within = within;
   told = λ w x in'. let here = subst (λ (es : List (Entry A)). Contains (pending s (past es) w) x) same in' in stays w x here (r.told w x here);
+  all = λ few. all few (r.all few);
 }
 
 -- what is so of all is so of one of them

@@ -3,6 +3,7 @@
 use Rattle.std.specs.Prelude.{◌≡◌, ◌≤◌, ℕ, true, All, Contains, List, length}
 use Rattle.std.specs.List.{AllByRecursion}
 use Rattle.ups_history.specs.View.{HistoryView, is_in_memory}
+use Rattle.ups_life.specs.Limits.{history_limit}
 use Rattle.ups_life.specs.declared.entry.Entry.{Entry}
 use Rattle.ups_life.specs.Settings.{Settings, IsMoment, IsOffset}
 use Rattle.ups_life.specs.Steps.{past}
@@ -22,10 +23,11 @@ pub record ManagerStands {A : Type 0} (s : Settings) (history : List (Entry A)) 
   pub tables : TablesStand s history t
   pub small : AllByRecursion IsSmallStep (held_steps s (past history))
 
--- the entry of each event that is pending for a watcher is in memory (PS3.4 CC.2.4)
+-- the entry of each event that is pending for a watcher is in memory (PS3.4 CC.2.4); so are all entries, unless the history has no end
 pub record Remembers {A : Type 0} (s : Settings) (h : HistoryView A) : Type 0 where
   pub within : h.first ≤ length h.entries
   pub told : (w : List ℕ) (x : Event) → Contains (pending s (past h.entries) w) x → is_in_memory h x.entry ≡ true
+  pub all : s.limit ≤ history_limit → h.first ≡ 0
 
 abbrev pub IsKeptInside : {A : Type 0} → Inside A → Type 0
 IsKeptInside m = ManagerStands m.configuration m.history.entries m.tables × IsIndexed m.configuration (past m.history.entries) m.index × Remembers m.configuration m.history

@@ -11,7 +11,7 @@ ghost use Rattle.ups_manager.specs.Indexing.{IsIndexed, has_room};
 
 use crate::deciding::Decision;
 use crate::indexing::make_index_room;
-use crate::reserve::Reserve;
+use crate::left_memory::LeftMemory;
 use std::alloc::{AllocError, Allocator};
 use ups_history::History;
 use ups_index::Index;
@@ -24,7 +24,7 @@ use ups_tables::{Tables, make_room};
 /// and the index stay the same in any case.
 fn make_all_room<A: Allocator + Copy>(
     configuration: &Configuration<A>,
-    reserve: &mut Reserve<A>,
+    reserve: &mut LeftMemory<A>,
     history: &mut History<A>,
     tables: &mut Tables<A>,
     index: &mut Index<A>,
@@ -58,7 +58,7 @@ fn make_all_room<A: Allocator + Copy>(
 /// and the index then stay the same.
 pub(crate) fn enter<A: Allocator + Copy>(
     configuration: &Configuration<A>,
-    reserve: &mut Reserve<A>,
+    reserve: &mut LeftMemory<A>,
     history: &mut History<A>,
     tables: &mut Tables<A>,
     index: &mut Index<A>,

@@ -1,6 +1,6 @@
 //! The state of the service: the history of accepted requests, and the steps.
 
-ghost use Rattle.std.specs.Prelude.{[], ◌≡◌, ◌≤◌, ◌<◌, ◌^◌, ◌+◌, ◌++◌, List, None, Some, length, drop, All, IfOk, IfErr, OnOk};
+ghost use Rattle.std.specs.Prelude.{[], ◌≡◌, ◌≤◌, ◌<◌, ◌^◌, ◌+◌, ◌++◌, List, None, Some, is_some, true, length, drop, All, IfOk, IfErr, OnOk};
 ghost use Rattle.std.specs.List.{AllByRecursion};
 ghost use Rattle.std.specs.Option.{IfSome, unwrap_or};
 ghost use Rattle.ups_dataset.specs.Data.{El};
@@ -8,7 +8,7 @@ ghost use Rattle.ups_match.specs.Matching.{is_match};
 ghost use Rattle.ups_life.specs.declared.request.Ask.TheVariants.{Do};
 ghost use Rattle.ups_life.specs.declared.request.Reply.TheVariants.{Sets as Found, Reports};
 ghost use Rattle.ups_cycle.specs.declared.status.Status.TheVariants.{ResourceLimitation, OutOfResources};
-ghost use Rattle.ups_life.specs.Limits.{peer_limit};
+ghost use Rattle.ups_life.specs.Limits.{history_limit, peer_limit};
 ghost use Rattle.ups_life.specs.Settings.{IsMoment, IsOffset};
 ghost use Rattle.ups_life.specs.Steps.{past};
 ghost use Rattle.ups_life.specs.declared.watching.Watched.{Watched};
@@ -19,6 +19,7 @@ ghost use Rattle.ups_life.specs.Worklist.{worklist};
 ghost use Rattle.ups_settings.specs.declared.fault.ManagerFault.TheVariants.{Memory};
 ghost use Rattle.ups_manager.specs.Finding.{answers_among};
 ghost use Rattle.ups_manager.specs.Held.{holder_of};
+ghost use Rattle.ups_manager.specs.Room.{most_for};
 ghost use Rattle.ups_tables.specs.Seen.{Once};
 ghost use Rattle.ups_service.specs.Asked.{asked_rows, IsAsked, NotesAsked};
 ghost use Rattle.ups_service.specs.Law.{OrLacking, Answers, SmallReply, entered, is_legal};
@@ -26,10 +27,10 @@ ghost use Rattle.ups_settings.specs.Refusal.{refusal};
 ghost use Rattle.ups_service.specs.Reporting.{reports_to};
 
 use crate::answering::answer_call;
+use crate::left_memory::LeftMemory;
 use crate::memory;
 use crate::peers::{acked_at, all_pending, first_pending, made_at, waiting_at, watched_in};
 use crate::reporting::reports_of;
-use crate::reserve::Reserve;
 use crate::rows::{find, uids_of};
 use crate::submitting::{MOST_IN_MEMORY, most_in_memory};
 use crate::worklist::matches_of_class;
@@ -59,7 +60,7 @@ pub struct Manager<A: Allocator + Copy> {
     history: History<A>,
     tables: Tables<A>,
     index: Index<A>,
-    reserve: Reserve<A>,
+    reserve: LeftMemory<A>,
     /// The number of held steps about which the last query asked a matcher.
     asked: u64,
     /// The index, among the entries that stayed in memory for an event, of the next one to look at again.
@@ -182,7 +183,7 @@ impl<A: Allocator + Copy> Manager<A> {
             history: History::new(alloc),
             tables,
             index: Index::new(alloc, offset),
-            reserve: Reserve::new(alloc),
+            reserve: LeftMemory::new(alloc),
             asked: 0,
             again: 0,
         })
@@ -217,9 +218,10 @@ impl<A: Allocator + Copy> Manager<A> {
         self.configuration.limit()
     }
 
-    /// Returns the accepted requests, oldest first, from the first one on behind which all are in memory: all of them, if
-    /// none was let go of.
+    /// Returns the accepted requests, oldest first, from the first one on behind which all are in memory. These are all,
+    /// unless the history has no end ([`Manager::lasting`]) and some were let go of.
     pub fn history(&self) -> &[Entry<A>]
+        ensures whole { self.now.settings.limit ≤ history_limit → result.now ≡ self.now.history }
         ensures shown { result.now ≡ drop self.now.first self.now.history }
         ensures legal { is_legal self.now.settings self.now.history }
         ensures moments { All (λ e. IsMoment e.moment) result.now }
@@ -227,8 +229,10 @@ impl<A: Allocator + Copy> Manager<A> {
         self.history.recent()
     }
 
-    /// Returns all accepted requests, oldest first, or None if some may have left memory.
+    /// Returns all accepted requests, oldest first, or None if some may have left memory, as they do only where the
+    /// history has no end.
     pub fn whole(&self) -> Option<&[Entry<A>]>
+        ensures all { self.now.settings.limit ≤ history_limit → is_some result ≡ true }
         ensures whole { IfSome result (λ h. h.now ≡ self.now.history) }
         ensures legal { is_legal self.now.settings self.now.history }
         ensures moments { IfSome result (λ h. All (λ e. IsMoment e.moment) h.now) }
@@ -251,10 +255,11 @@ impl<A: Allocator + Copy> Manager<A> {
         &self.history
     }
 
-    /// Lets requests before the one at index `upto` of the history leave memory. Those stay that an event is of which is
-    /// pending for a watcher (PS3.4 CC.2.4): no other is needed for what is asked later. A call looks at 320 requests
-    /// at most, so that it takes no long time, and no reply tells whether they have left. Returns whether a further
-    /// call has more to look at, or may let more go.
+    /// Lets requests before the one at index `upto` of the history leave memory, if the history has no end
+    /// ([`Manager::lasting`]); else all stay. Those stay that an event is of which is pending for a watcher (PS3.4 CC.2.4):
+    /// no other is needed for what is asked later. A call looks at `LOOKED_AT` requests, and again at as many that
+    /// stayed, at most, so that it takes no long time, and no reply tells whether they have left. Returns whether a
+    /// further call has more to look at, or may let more go.
     pub fn let_go(&mut self, upto: usize) -> bool
         ensures settings { self.new.settings ≡ self.old.settings }
         ensures history { self.new.history ≡ self.old.history }
@@ -408,6 +413,7 @@ impl<A: Allocator + Copy> Manager<A> {
     /// than `most` entries are in memory.
     fn submit_within(&mut self, call: Entry<A>, most: u64) -> Reply<A>
         requires moment { IsMoment call.moment }
+        requires most { most_for call.request ≤ most }
         ensures answer { Answers self.old.settings self.old.history call.caller call.ae call.moment (Do call.request) result }
         ensures history { self.new.history ≡ self.old.history ++ entered call.caller call.ae call.moment (Do call.request) result }
         ensures settings { self.new.settings ≡ self.old.settings }
@@ -483,7 +489,8 @@ impl<A: Allocator + Copy> Manager<A> {
     /// Answers what an application entity asks by the history, and enters it if it is a request that is accepted.
     /// `caller` is the number of the caller, and `moment` is in seconds since 1970-01-01 UTC. A query asks once about
     /// each held step of its class whether it matches, and about no other step. With 1,000,000 entries in memory, and
-    /// another tenth for an acknowledgement or a sweep, a request that would be accepted gets 0213.
+    /// another tenth for an acknowledgement, the end of a subscription or a sweep, a request that would be accepted gets
+    /// 0213.
     pub fn answer_as(&mut self, caller: u32, ae: Ae, moment: u64, ask: Ask<A>) -> Reply<A>
         requires moment { IsMoment moment }
         ensures answer { Answers self.old.settings self.old.history caller ae moment ask result }

@@ -6,14 +6,12 @@ ghost use Rattle.ups_manager.specs.Kept.{Remembers};
 
 use std::alloc::Allocator;
 use ups_history::History;
-use ups_life::Configuration;
+use ups_life::{Configuration, MAX_HISTORY};
 use ups_tables::Tables;
 
-/// The most entries set aside that one call looks at.
-const LOOKED_AT: usize = 256;
-
-/// The most entries that stayed for an event that one call looks at again.
-const LOOKED_AT_AGAIN: usize = 256;
+/// The most entries set aside that one call lets go of or keeps, and the most of those kept for an event that it looks
+/// at again.
+pub const LOOKED_AT: usize = 256;
 
 /// Looks at the entry set aside that is next: it stays if an event that is pending refers to it, and leaves otherwise.
 /// Returns whether there was one, and memory for it if it stays.
@@ -104,7 +102,7 @@ fn look_at_some_again<A: Allocator + Copy>(
 {
     let mut has_left = false;
     let mut index = from;
-    for _ in 0..LOOKED_AT_AGAIN {
+    for _ in 0..LOOKED_AT {
         match look_again(configuration, history, tables, index) {
             LookedAt::Stays => index = index.saturating_add(1),
             LookedAt::Left => has_left = true,
@@ -114,9 +112,10 @@ fn look_at_some_again<A: Allocator + Copy>(
     (has_left, index)
 }
 
-/// Lets entries before the one at index `upto` leave memory, if no event that is pending refers to them: looks at some
-/// of them, and again at some that stayed, from the index `again` on. Returns whether there are more to look at, or some
-/// that stayed have left, so that others may, and the index of the next one of those that stayed.
+/// Lets entries before the one at index `upto` leave memory, if no event that is pending refers to them and the history
+/// has no end: looks at some of them, and again at some that stayed, from the index `again` on. Returns whether there
+/// are more to look at, or some that stayed have left, so that others may, and the index of the next one of those that
+/// stayed.
 pub(crate) fn let_go<A: Allocator + Copy>(
     configuration: &Configuration<A>,
     history: &mut History<A>,
@@ -129,6 +128,9 @@ pub(crate) fn let_go<A: Allocator + Copy>(
     ensures history { history.new.entries ≡ history.old.entries }
     ensures remembers { Remembers configuration.now history.new }
 {
+    if configuration.limit() <= MAX_HISTORY {
+        return (false, again);
+    }
     history.set_aside(upto);
     let _first = history.first();
     let is_more = look_at_some(configuration, history, tables);

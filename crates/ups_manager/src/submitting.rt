@@ -14,6 +14,7 @@ ghost use Rattle.ups_tables.specs.Held.{held_at};
 ghost use Rattle.ups_tables.specs.Keyed.{row_held, holder_held};
 ghost use Rattle.ups_manager.specs.declared.submitting.SubmitFault.TheVariants.{Refused};
 ghost use Rattle.ups_manager.specs.Deciding.{repeats_in};
+ghost use Rattle.ups_manager.specs.Room.{in_memory, most_for};
 ghost use Rattle.ups_manager.specs.Faults.{status_of, RowFails, StepFails};
 
 use crate::rows::{find, is_used, row_of};
@@ -58,21 +59,30 @@ pub(crate) fn is_full<A: Allocator + Copy>(
     configuration.limit() <= history.len() as u64
 }
 
-/// The most entries in memory for which one is entered again, or one that makes room: a tenth more than for others, so
-/// that reports can be acknowledged in a full memory, and a start never lacks room that the run before it had. Only a
-/// compaction reserves a UID, in the place of an entry that the run before it had.
+/// The most entries in memory for which one is entered again, or one that makes room or ends a subscription: a tenth
+/// more than for others, so that a full memory can be emptied, and a start never lacks room that the run before it had.
+/// None of these is of an event, so none stays in memory once it is committed. Only a compaction reserves a UID, in the
+/// place of an entry that the run before it had.
 pub(crate) const MOST_IN_MEMORY: u64 = MAX_HISTORY / 10 * 11;
 
 /// Returns how many entries may be in memory so that a request is entered that is asked for.
-pub(crate) fn most_in_memory<A: Allocator + Copy>(request: &Request<A>) -> u64 {
+pub(crate) fn most_in_memory<A: Allocator + Copy>(request: &Request<A>) -> u64
+    ensures { result ≡ most_for request.now }
+{
     match request {
-        Request::Ack { .. } | Request::Sweep | Request::Reserve { .. } => MOST_IN_MEMORY,
+        Request::Ack { .. }
+        | Request::Unsubscribe { .. }
+        | Request::Suspend { .. }
+        | Request::Sweep
+        | Request::Reserve { .. } => MOST_IN_MEMORY,
         _ => MAX_HISTORY,
     }
 }
 
 /// Returns whether `most` entries of a history are in memory.
-pub(crate) fn is_memory_full<A: Allocator + Copy>(history: &History<A>, most: u64) -> bool {
+pub(crate) fn is_memory_full<A: Allocator + Copy>(history: &History<A>, most: u64) -> bool
+    ensures { result ≡ nat_le most (in_memory history.now) }
+{
     history.in_memory() as u64 >= most
 }
 

@@ -1,3 +1,4 @@
+pub mod Audited
 pub mod Crosses
 pub mod Ending
 pub mod Served

@@ -1,5 +1,5 @@
 -- Each pass of a server stays at its desk, whatever its job.
-use Rattle.std.proofs.Common.{◌≡◌, ℕ, zero, suc, Bool, true, false, nat_lt, List, [], ◌∷◌, ◌++◌, sym, ap, ◌∙◌, subst, inl, inr}
+use Rattle.std.proofs.Common.{◌≡◌, ℕ, zero, suc, Bool, true, false, nat_lt, List, [], ◌∷◌, ◌++◌, sym, ap, ◌∙◌, subst, inl, inr, is_some, Some, None}
 use Rattle.std.specs.Prelude.{All, MatchBool, length}
 use Rattle.std.proofs.lemmas.List.Elements.{All-nil, All-cons, All-head, All-tail, All-append}
 use Rattle.atomic_table.specs.Seated.{TableId}
@@ -8,8 +8,12 @@ use Rattle.ups_life.specs.declared.request.Ask.{Ask}
 use Rattle.ups_life.specs.declared.request.Reply.{Reply}
 use Rattle.ups_life.specs.Events.{pending}
 use Rattle.ups_life.specs.Steps.{past}
+use Rattle.ups_peers.specs.declared.limits.ServerLimits.{ServerLimits}
+use Rattle.ups_peers.specs.declared.watcher.Watcher.{Watcher}
+use Rattle.ups_peers.specs.Limits.{excess}
 use Rattle.ups_turn.specs.Pass.{PassView, most_calls, HasObserved, IsServed, IsSpent, IsCall}
-use Rattle.ups_net.specs.Delivering.{CountsPending, FindsPending, DeliversTo, DeliversToAll, DeliversRounds}
+use Rattle.ups_net.specs.Delivering.{CountsPending, FindsPending, Visits, DeliversTo, DeliversToAll, DeliversRounds}
+use Rattle.ups_net.specs.GivingUp.{CountsExcess, GivesUp, KeepsWithin}
 use Rattle.ups_net.specs.Sweeping.{LooksIfKept, Sweeps}
 use Rattle.ups_net.specs.Working.{Works, EndThreads, Ran}
 use Rattle.ups_net.specs.declared.options.ServerOptions.{ServerOptions}
@@ -42,21 +46,40 @@ module _ {A : Type 0} where
   found_out ae old new found (inl asks) = called old new ae asks.moment _ asks.reply asks.call
   found_out ae old new found (inr counts) = counted ae old new found counts
 
-  told : (config : Config) (turns : ℕ) (ae : List ℕ) (old new : PassView A) → DeliversTo config turns ae old new → new.table ≡ old.table
-  told config turns ae old new (between, found, finds, inl is) = ap (λ (p : PassView A). p.table) is ∙ found_out ae old between found finds
-  told config turns ae old new (between, found, finds, inr (some, ended, d)) = d.same.0 ∙ found_out ae old between found finds
+  counted_excess : (limit : ℕ) (watcher : Watcher) (old new : PassView A) (beyond : ℕ) → CountsExcess limit watcher old beyond new → new.table ≡ old.table
+  counted_excess limit watcher old new beyond = at (nat_lt old.calls most_calls)
+    where
+      at : (b : Bool) → MatchBool b (HasObserved old new × (beyond ≡ excess (is_some watcher.address) limit (length (pending new.settings (past new.seen) watcher.ae)))) ((beyond ≡ 0) × (new ≡ old)) → new.table ≡ old.table
+      at true s = s.0.same.0
+      at false s = ap (λ (p : PassView A). p.table) s.1
 
-  told_all : (config : Config) (turns : ℕ) (aes : List (List ℕ)) (old new : PassView A) → DeliversToAll config turns aes old new → new.table ≡ old.table
-  told_all config turns [] old new is = ap (λ (p : PassView A). p.table) is
-  told_all config turns (ae ∷ aes) old new (between, one, more) = told_all config turns aes between new more ∙ told config turns ae old between one
+  given_up : (ae : List ℕ) (most : ℕ) (old new : PassView A) → GivesUp ae most old new → new.table ≡ old.table
+  given_up ae most old new (asked, None, asks, is) = ap (λ (p : PassView A). p.table) is ∙ called old asked ae asks.moment _ asks.reply asks.call
+  given_up ae most old new (asked, Some upto, asks, acks) = called asked new ae acks.moment _ acks.reply acks.call ∙ called old asked ae asks.moment _ asks.reply asks.call
 
-  told_rounds : (config : Config) (turns : ℕ) (aes : List (List ℕ)) (n : ℕ) (old new : PassView A) → DeliversRounds config turns aes n old new → new.table ≡ old.table
-  told_rounds config turns aes zero old new is = ap (λ (p : PassView A). p.table) is
-  told_rounds config turns aes (suc n) old new (between, before, last) = told_all config turns aes between new last ∙ told_rounds config turns aes n old between before
+  kept_within : (limit : ℕ) (watcher : Watcher) (old new : PassView A) → KeepsWithin limit watcher old new → new.table ≡ old.table
+  kept_within limit watcher old new (counted, beyond, counts, inl is) = ap (λ (p : PassView A). p.table) is ∙ counted_excess limit watcher old counted beyond counts
+  kept_within limit watcher old new (counted, beyond, counts, inr (most, some, few, gives)) = given_up watcher.ae most counted new gives ∙ counted_excess limit watcher old counted beyond counts
+
+  visited : (config : Config) (turns : ℕ) (watcher : Watcher) (old new : PassView A) → Visits config turns watcher old new → new.table ≡ old.table
+  visited config turns watcher old new (between, found, finds, inl is) = ap (λ (p : PassView A). p.table) is ∙ found_out watcher.ae old between found finds
+  visited config turns watcher old new (between, found, finds, inr (some, there, ended, d)) = d.same.0 ∙ found_out watcher.ae old between found finds
+
+  told : (config : Config) (limits : ServerLimits) (watcher : Watcher) (old new : PassView A) → DeliversTo config limits watcher old new → new.table ≡ old.table
+  told config limits watcher old new (kept, inl is, visits) = visited config limits.turns watcher kept new visits ∙ ap (λ (p : PassView A). p.table) is
+  told config limits watcher old new (kept, inr keeps, visits) = visited config limits.turns watcher kept new visits ∙ kept_within limits.waiting watcher old kept keeps
+
+  told_all : (config : Config) (limits : ServerLimits) (ws : List Watcher) (old new : PassView A) → DeliversToAll config limits ws old new → new.table ≡ old.table
+  told_all config limits [] old new is = ap (λ (p : PassView A). p.table) is
+  told_all config limits (w ∷ ws) old new (between, one, more) = told_all config limits ws between new more ∙ told config limits w old between one
+
+  told_rounds : (config : Config) (limits : ServerLimits) (ws : List Watcher) (n : ℕ) (old new : PassView A) → DeliversRounds config limits ws n old new → new.table ≡ old.table
+  told_rounds config limits ws zero old new is = ap (λ (p : PassView A). p.table) is
+  told_rounds config limits ws (suc n) old new (between, before, last) = told_all config limits ws between new last ∙ told_rounds config limits ws n old between before
 
   works_here : (options : ServerOptions) (b : Bool) (old new : PassView A) → Works options b old new → new.table ≡ old.table
   works_here options true old new w = stays options.config options.limits.turns options.associations old new w
-  works_here options false old new w = told_rounds options.config options.limits.turns _ options.rounds old new w
+  works_here options false old new w = told_rounds options.config options.limits options.watchers.items options.rounds old new w
 
   each_here : (options : ServerOptions) (table : TableId) (olds news : List (PassView A)) → EndThreads options true olds news → All (λ (p : PassView A). p.table ≡ table) olds → All (λ (p : PassView A). p.table ≡ table) news
   each_here options table [] [] e h = h

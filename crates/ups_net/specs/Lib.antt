@@ -1,4 +1,6 @@
+pub mod Audited
 pub mod Delivering
+pub mod GivingUp
 pub mod Sending
 pub mod Serving
 pub mod Sharing

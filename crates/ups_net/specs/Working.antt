@@ -1,17 +1,16 @@
 -- The effect of a server's threads on their passes.
-use Rattle.std.specs.Prelude.{◌≡◌, Bool, true, false, map, nat_le, List, [], ◌∷◌, ◌++◌, MatchBool}
+use Rattle.std.specs.Prelude.{◌≡◌, Bool, true, false, nat_le, List, [], ◌∷◌, ◌++◌, MatchBool}
 use Rattle.ups_life.specs.declared.entry.Entry.{Entry}
 use Rattle.ups_net.specs.Delivering.{DeliversRounds}
 use Rattle.ups_net.specs.Serving.{ServesAssociations}
 use Rattle.ups_net.specs.Sweeping.{Sweeps}
 use Rattle.ups_net.specs.declared.options.ServerOptions.{ServerOptions}
-use Rattle.ups_peers.specs.declared.watcher.Watcher.{Watcher}
 use Rattle.ups_turn.specs.Pass.{PassView}
 
 -- a worker (`true`) has served as many associations as the options say, or a deliverer has made as many rounds
 abbrev pub Works : {A : Type 0} → ServerOptions → Bool → PassView A → PassView A → Type 0
 Works options true old new = ServesAssociations options.config options.limits.turns options.associations old new
-Works options false old new = DeliversRounds options.config options.limits.turns (map (λ (w : Watcher). w.ae) options.watchers.items) options.rounds old new
+Works options false old new = DeliversRounds options.config options.limits options.watchers.items options.rounds old new
 
 -- a thread has done its job: that of a worker if its number is at most the number of workers, otherwise that of a deliverer
 abbrev pub DoesJob : {A : Type 0} → ServerOptions → PassView A → PassView A → Type 0

@@ -13,7 +13,7 @@ ghost use Rattle.ups_ledger.specs.Keeping.{KeeperGoesOn, HasWatched};
 use crate::monitor::{MINUTE, Reminder};
 use crate::roster::Roster;
 use crate::site::Site;
-use crate::tender::Tender;
+use crate::tender::{Compactions, Tender};
 use log::Log;
 use std::alloc::Global;
 use std::sync::Wait;
@@ -98,6 +98,11 @@ impl Committer {
     /// Returns whether the ledger is lost, so that only a restart helps.
     pub(crate) fn is_lost(&self) -> bool {
         self.is_lost
+    }
+
+    /// Returns the compactions of the ledger since the server began.
+    pub(crate) fn compactions(&self) -> Compactions {
+        self.tender.compactions()
     }
 
     // Returns whether the last try to commit failed, or a compaction is under way.

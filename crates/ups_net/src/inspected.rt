@@ -1,7 +1,9 @@
 //! A service that tells the log what it is asked.
 
 ghost use Rattle.std.specs.Prelude.{◌≡◌};
+ghost use Rattle.ups_net.specs.Audited.{HasAnswered};
 
+use crate::seeing::Seeing;
 use log::Log;
 use std::alloc::Global;
 use ups_dataset::{DataSet, Element, ITEM, Tag, Value, Vr};
@@ -10,13 +12,13 @@ use ups_log::{Account, AuditedAsk, tell_done};
 use ups_pdu::Ae;
 use ups_service::Service;
 
-/// A service that tells the account of an association about each query with a sequence that was read as bytes, and may
-/// log who did what. It answers as the inner one does.
+/// A service that tells the account of an association about each query with a sequence that was read as bytes, and under
+/// which title the peer is known, and may log who did what. It answers as the inner one does.
 ///
 /// Such a sequence is Unknown (UN) and matches only as a whole value, since it came in Implicit VR Little Endian with a
 /// given length, and the dictionary lacks it (PS3.5 section 6.2.2). The answer does not say so.
 #[derive(Drop)]
-pub(crate) struct Inspected<'a, S: Service<Global>, R: Log> {
+pub(crate) struct Inspected<'a, S: Seeing, R: Log> {
     pub(crate) service: S,
     rt: &'a R,
     account: &'a Account<'a>,
@@ -24,7 +26,7 @@ pub(crate) struct Inspected<'a, S: Service<Global>, R: Log> {
     is_audited: bool,
 }
 
-impl<'a, S: Service<Global>, R: Log> Inspected<'a, S, R> {
+impl<'a, S: Seeing, R: Log> Inspected<'a, S, R> {
     /// Wraps the service of an association.
     pub(crate) fn new(
         rt: &'a R,
@@ -61,10 +63,14 @@ impl<'a, S: Service<Global>, R: Log> Inspected<'a, S, R> {
         }
     }
 
-    // Logs what was done with this reply.
-    fn tell(&self, noted: &Option<AuditedAsk>, reply: &Reply<Global>) {
-        if let Some(noted) = noted {
-            tell_done(self.rt, self.account, noted, reply);
+    // Tells the account that the service knows the peer under this title, and logs what was done with this reply, which
+    // `number` accepted requests decide.
+    fn tell(&self, noted: &Option<AuditedAsk>, ae: Ae, number: u64, reply: &Reply<Global>)
+        requires answered { HasAnswered (S.settings self.now.service) (S.others self.now.service) (S.caller self.now.service) (S.seen self.now.service) ae number reply.now }
+    {
+        match noted {
+            Some(noted) => tell_done(self.rt, self.account, ae, number, noted, reply),
+            None => self.account.know(ae),
         }
     }
 }
@@ -118,7 +124,7 @@ fn unread_sequence(keys: &DataSet<Global>) -> Option<Tag> {
     None
 }
 
-impl<'a, S: Service<Global>, R: Log> Service<Global> for Inspected<'a, S, R> {
+impl<'a, S: Seeing, R: Log> Service<Global> for Inspected<'a, S, R> {
     ghost settings = { λ i. S.settings i.service };
 
     ghost others = { λ i. S.others i.service };
@@ -131,7 +137,7 @@ impl<'a, S: Service<Global>, R: Log> Service<Global> for Inspected<'a, S, R> {
         self.inspect(ask);
         let noted = self.noted(ask);
         let reply = self.service.answer(ae, moment, ask);
-        self.tell(&noted, &reply);
+        self.tell(&noted, ae, self.service.entries_seen(), &reply);
         reply
     }
 }

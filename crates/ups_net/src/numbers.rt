@@ -1,5 +1,8 @@
 //! The numbers of a server, for its log.
 
+ghost use Rattle.std.specs.Prelude.{◌≡◌, IfSome};
+ghost use Rattle.ups_ledger.specs.Backed.{IsBacked};
+
 use crate::options::ServerOptions;
 use crate::roster::Roster;
 use crate::server_state::ServerState;
@@ -33,7 +36,11 @@ impl<'a> Numbers<'a> {
         state: &'a ServerState<K>,
         options: &'a ServerOptions,
         entries: u64,
-    ) -> Numbers<'a> {
+    ) -> Numbers<'a>
+        ensures entries { result.entries ≡ entries }
+        ensures committed { IfSome result.committed (λ count. IsBacked K.had count) }
+        ensures workers { result.workers ≡ options.now.limits.workers }
+    {
         Numbers {
             entries,
             run: state.commits.run(),

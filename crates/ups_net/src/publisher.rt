@@ -5,6 +5,7 @@ use crate::monitor::{MINUTE, Reminder};
 use crate::numbers::Numbers;
 use crate::options::ServerOptions;
 use crate::server_state::ServerState;
+use crate::tender::Compactions;
 use log::Log;
 use std::alloc::Global;
 use std::io::{self, Write};
@@ -15,7 +16,7 @@ use ups_log::{
     put_heading, put_metric, put_sample, tell_unwritten, title_of,
 };
 use ups_peers::Watcher;
-use ups_transport::Network;
+use ups_transport::{Network, ProcessMemory};
 
 /// The number of seconds between two pages.
 const PAUSE: u64 = 15;
@@ -34,6 +35,11 @@ struct Page<'a> {
     /// Whether the last try to commit failed, and whether only a restart helps.
     is_failing: bool,
     is_lost: bool,
+    /// The compactions of the store.
+    compactions: Compactions,
+    /// The memory of the process, and the limit of its addresses, if the system tells.
+    memory: Option<ProcessMemory>,
+    memory_limit: Option<u64>,
 }
 
 /// Writes the version of the program, and when the server began.
@@ -52,10 +58,43 @@ fn put_start<W: Write>(writer: &mut W, page: &Page<'_>) -> io::Result<()> {
     put_metric(writer, &start, page.begun)
 }
 
-/// Writes how long the history is.
+/// Writes how long the history is, and how many steps are held, if that is known.
 fn put_history<W: Write>(writer: &mut W, page: &Page<'_>) -> io::Result<()> {
-    let entries = Metric::gauge("upsd_history_entries", "Accepted requests in the history.");
-    put_metric(writer, &entries, page.numbers.entries)
+    let entries = Metric::gauge(
+        "upsd_history_entries",
+        "Accepted requests: those of the store at the start, and all since.",
+    );
+    put_metric(writer, &entries, page.numbers.entries)?;
+    let Some(steps) = page.numbers.tally.steps() else {
+        return Ok(());
+    };
+    let held = Metric::gauge("upsd_steps_held", "Steps that are held, in any state.");
+    put_metric(writer, &held, steps)
+}
+
+/// Writes how many rows a store has of which `committed` requests were committed in all, and how its compactions went.
+fn put_compactions<W: Write>(
+    writer: &mut W,
+    compactions: &Compactions,
+    committed: u64,
+) -> io::Result<()> {
+    let rows = Metric::gauge("upsd_store_rows", "Requests in the file of the store.");
+    put_metric(writer, &rows, compactions.rows_of(committed))?;
+    let done = Metric::counter(
+        "upsd_store_compactions_total",
+        "Compactions of the store since the start.",
+    );
+    put_metric(writer, &done, compactions.done)?;
+    let last = Metric::gauge(
+        "upsd_store_last_compaction_timestamp_seconds",
+        "When the last of them ended, in seconds since 1970-01-01 UTC, or 0.",
+    );
+    put_metric(writer, &last, compactions.last)?;
+    let failing = Metric::gauge(
+        "upsd_store_compaction_failing",
+        "1 if the last compaction of the store failed, else 0.",
+    );
+    put_metric(writer, &failing, u64::from(compactions.is_failing))
 }
 
 /// Writes what is committed of the history, and whether the store fails, if there is a store.
@@ -67,9 +106,10 @@ fn put_store<W: Write>(writer: &mut W, page: &Page<'_>) -> io::Result<()> {
     put_metric(writer, &runs, run)?;
     let entries = Metric::gauge(
         "upsd_store_committed_entries",
-        "Accepted requests that are on the disk.",
+        "Accepted requests that are committed: those of the store at the start, and all since.",
     );
     put_metric(writer, &entries, committed)?;
+    put_compactions(writer, &page.compactions, committed)?;
     let failing = Metric::gauge(
         "upsd_store_failing",
         "1 if the store took no requests at the last try, else 0.",
@@ -80,6 +120,31 @@ fn put_store<W: Write>(writer: &mut W, page: &Page<'_>) -> io::Result<()> {
         "1 if the store is lost, so that only a restart helps, else 0.",
     );
     put_metric(writer, &lost, u64::from(page.is_lost))
+}
+
+/// Writes how much memory the process has, and how much it may have, if the system tells.
+fn put_memory<W: Write>(writer: &mut W, page: &Page<'_>) -> io::Result<()> {
+    let Some(memory) = page.memory else {
+        return Ok(());
+    };
+    let resident = Metric::gauge(
+        "upsd_resident_memory_bytes",
+        "Memory that the process has in use.",
+    );
+    put_metric(writer, &resident, memory.resident)?;
+    let addresses = Metric::gauge(
+        "upsd_virtual_memory_bytes",
+        "Addresses that the process has in use, which LimitAS limits.",
+    );
+    put_metric(writer, &addresses, memory.addresses)?;
+    let Some(most) = page.memory_limit else {
+        return Ok(());
+    };
+    let limit = Metric::gauge(
+        "upsd_virtual_memory_max_bytes",
+        "Addresses that the process may have, by LimitAS.",
+    );
+    put_metric(writer, &limit, most)
 }
 
 /// Writes how many workers there are, and how many are taken.
@@ -234,6 +299,20 @@ fn put_reports<W: Write>(writer: &mut W, numbers: &Numbers<'_>) -> io::Result<()
     Ok(())
 }
 
+/// Writes how many reports each watcher acknowledged.
+fn put_delivered<W: Write>(writer: &mut W, numbers: &Numbers<'_>) -> io::Result<()> {
+    let delivered = Metric::counter(
+        "upsd_reports_delivered_total",
+        "Reports that a watcher acknowledged since the start.",
+    );
+    put_heading(writer, &delivered)?;
+    for (place, watcher) in numbers.watchers.iter().enumerate() {
+        let reports = numbers.roster.presence(place).delivered();
+        put_sample(writer, &delivered, &watcher_label(watcher), reports)?;
+    }
+    Ok(())
+}
+
 /// Writes which watchers are away.
 fn put_away<W: Write>(writer: &mut W, numbers: &Numbers<'_>) -> io::Result<()> {
     let away = Metric::gauge(
@@ -253,12 +332,14 @@ fn put_page<W: Write>(writer: &mut W, alloc: Global, page: &Page<'_>) -> io::Res
     put_start(writer, page)?;
     put_history(writer, page)?;
     put_store(writer, page)?;
+    put_memory(writer, page)?;
     put_workers(writer, page)?;
     put_associations(writer, page)?;
     put_longest(writer, page)?;
     put_requests(writer, page.numbers.tally.kinds())?;
     put_refusals(writer, alloc, page.numbers.tally.kinds())?;
     put_reports(writer, &page.numbers)?;
+    put_delivered(writer, &page.numbers)?;
     put_away(writer, &page.numbers)
 }
 
@@ -317,6 +398,9 @@ impl Publisher {
             longest: state.tally.take_longest(),
             is_failing: committer.is_failing(),
             is_lost: committer.is_lost(),
+            compactions: committer.compactions(),
+            memory: rt.memory(),
+            memory_limit: rt.memory_limit(),
         };
         if let Err(fault) = publish(rt, options.alloc, file.path.as_str(), &page)
             && self.failure.is_due(now)

@@ -93,6 +93,12 @@ pub(crate) struct Presence {
     slow: AtomicU64,
     /// The number of events that waited for it when they were last counted.
     waiting: AtomicU64,
+    /// The number of reports that it acknowledged since the start.
+    delivered: AtomicU64,
+    /// The number of events that were given up.
+    given_up: AtomicU64,
+    /// How many of these were not logged yet.
+    untold: AtomicU64,
     /// The deliveries to it that were not logged yet.
     pub(crate) unlogged: UnloggedDeliveries,
 }
@@ -105,6 +111,9 @@ impl Drop for Presence {
             failed: _,
             slow: _,
             waiting: _,
+            delivered: _,
+            given_up: _,
+            untold: _,
             unlogged: _,
         } = self;
     }
@@ -119,6 +128,9 @@ impl Presence {
             failed: AtomicU64::new(0),
             slow: AtomicU64::new(0),
             waiting: AtomicU64::new(0),
+            delivered: AtomicU64::new(0),
+            given_up: AtomicU64::new(0),
+            untold: AtomicU64::new(0),
             unlogged: UnloggedDeliveries::new(),
         }
     }
@@ -189,9 +201,36 @@ impl Presence {
         self.waiting.store(waiting, Ordering::SeqCst);
     }
 
-    /// Returns how many events waited for the watcher when they were last counted.
+    /// Returns how many events waited for the watcher when they were last counted, without those given up since.
     pub(crate) fn waiting(&self) -> u64 {
         self.waiting.load(Ordering::SeqCst)
+    }
+
+    /// Counts reports that the watcher acknowledged.
+    pub(crate) fn add_delivered(&self, reports: u64) {
+        self.delivered.fetch_add(reports, Ordering::SeqCst);
+    }
+
+    /// Returns how many reports the watcher acknowledged since the start.
+    pub(crate) fn delivered(&self) -> u64 {
+        self.delivered.load(Ordering::SeqCst)
+    }
+
+    /// Notes that this many events of those that wait for the watcher were given up.
+    pub(crate) fn gives_up(&self, count: u64) {
+        self.note_waiting(self.waiting().saturating_sub(count));
+        self.given_up.fetch_add(count, Ordering::SeqCst);
+        self.untold.fetch_add(count, Ordering::SeqCst);
+    }
+
+    /// Returns how many events were given up since the server began.
+    pub(crate) fn given_up(&self) -> u64 {
+        self.given_up.load(Ordering::SeqCst)
+    }
+
+    /// Returns how many events were given up since the last call.
+    pub(crate) fn take_untold(&self) -> u64 {
+        self.untold.swap(0, Ordering::SeqCst)
     }
 }
 

@@ -49,6 +49,11 @@ impl<K: Keeping> ServerState<K> {
         })
     }
 
+    /// Notes how many steps the server begins with, for its numbers.
+    pub fn begin_with(&self, steps: u64) {
+        self.tally.begin_with(steps);
+    }
+
     /// Returns the door.
     pub fn door(&self) -> &Door {
         &self.door

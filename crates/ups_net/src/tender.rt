@@ -29,6 +29,45 @@ impl<R: Threads> Disposer for DropThreads<'_, R> {
     }
 }
 
+/// The compactions of a ledger since the server began, for its numbers.
+#[derive(Clone, Copy)]
+pub(crate) struct Compactions {
+    /// The number of those that ended well.
+    pub(crate) done: u64,
+    /// The number of records by which they made the ledger shorter.
+    pub(crate) saved: u64,
+    /// When the last of them ended, in seconds since 1970-01-01 UTC; 0 if none has.
+    pub(crate) last: u64,
+    /// Whether the last try failed.
+    pub(crate) is_failing: bool,
+}
+
+impl Compactions {
+    /// Creates the count of a server that begins.
+    fn new() -> Compactions {
+        Compactions {
+            done: 0,
+            saved: 0,
+            last: 0,
+            is_failing: false,
+        }
+    }
+
+    /// Counts a compaction that ended at `now`, and made a ledger of `before` records one of `after`.
+    fn add(&mut self, before: u64, after: u64, now: u64) {
+        self.done = self.done.saturating_add(1);
+        let saved = before.saturating_sub(after);
+        self.saved = self.saved.saturating_add(saved);
+        self.last = now;
+        self.is_failing = false;
+    }
+
+    /// Returns how many records a ledger has of which `committed` were committed in all.
+    pub(crate) fn rows_of(&self, committed: u64) -> u64 {
+        committed.saturating_sub(self.saved)
+    }
+}
+
 /// What is known of the compaction of a ledger.
 #[derive(Clone, Copy)]
 pub(crate) struct Tender {
@@ -38,6 +77,8 @@ pub(crate) struct Tender {
     begun: Option<Instant>,
     /// When a compaction failed last, in seconds since 1970-01-01 UTC.
     failed: Option<u64>,
+    /// The compactions since the server began.
+    compactions: Compactions,
 }
 
 impl Tender {
@@ -47,12 +88,18 @@ impl Tender {
             is_going: false,
             begun: None,
             failed: None,
+            compactions: Compactions::new(),
         }
     }
 
     /// Returns whether a compaction is under way.
     pub(crate) fn is_going(&self) -> bool {
         self.is_going
+    }
+
+    /// Returns the compactions since the server began.
+    pub(crate) fn compactions(&self) -> Compactions {
+        self.compactions
     }
 
     /// Returns how long to wait for entries that one would wait `wait` for: no longer than until the next slice.
@@ -87,10 +134,12 @@ impl Tender {
             Ok(Tending::Resting) => {}
             Ok(Tending::Going) => self.is_going = true,
             Ok(Tending::Compacted { before, after }) => {
+                self.compactions.add(before, after, now);
                 tell_compacted(rt, before, after, self.elapsed(rt));
             }
             Err(fault) => {
                 self.failed = Some(now);
+                self.compactions.is_failing = true;
                 tell_uncompacted(rt, fault);
             }
         }

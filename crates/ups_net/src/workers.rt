@@ -12,6 +12,7 @@ ghost use Rattle.ups_net.specs.Working.{EndsThread, EndThreads, Ran, seen_last};
 ghost use Rattle.ups_net.specs.declared.options.ServerOptions.{ServerOptions};
 
 use crate::delivering::deliver_rounds;
+use crate::monitor::tell_room;
 use crate::options::ServerOptions;
 use crate::server_state::ServerState;
 use crate::serving::serve_one;
@@ -26,7 +27,7 @@ use std::time::Clock;
 use ups_ledger::{Keeper, Keeping, Ledger};
 use ups_log::{Account, end_told};
 use ups_service::SharedService;
-use ups_transport::{Caller, Network, Pressure, limit_of};
+use ups_transport::{Caller, Network, limit_of};
 use ups_turn::{Desk, Pass};
 
 /// Serves `options.associations` associations, one after another, each on a connection from the door of the server.
@@ -50,7 +51,6 @@ pub fn work<M: SharedService<Global>, K: Keeping, R: Wait + Clock + Log>(
     let door = &state.door;
     let tally = &state.tally;
     let mut pass = pass;
-    let mut in_row = 0;
     for _ in 0..options.associations {
         let Caller {
             connection,
@@ -58,14 +58,12 @@ pub fn work<M: SharedService<Global>, K: Keeping, R: Wait + Clock + Log>(
         } = door.next_connection(rt, options.limits.timeout);
         let number = door.next_number();
         let account = Account::new(rt, options.alloc, number, address, options.verbose, tally);
-        door.take_worker();
-        let pressure = Some(Pressure { door, in_row });
+        let pressure = Some(door.take_worker(rt, options.alloc, number, address));
         let ends = connection.ends(limit_of(options.limits.timeout));
         let (after, ended, is_sent, _) = serve_one(site, ends, &account, pressure, pass);
         pass = after;
-        in_row = account.in_row(in_row);
         account.tell_end(rt, &end_told(ended, is_sent));
-        door.free_worker();
+        door.free_worker(rt, number);
     }
     pass
 }
@@ -109,6 +107,14 @@ fn settle<'a, R: Wait>(
     match off {
         Some(token) => token,
         None => tell(rt, start, true),
+    }
+}
+
+/// Tells the supervisor that the server is ready, once its threads begin, and logs how much memory these leave.
+fn tell_begun<R: Log + Network>(rt: &R, begun: bool) {
+    if begun {
+        rt.tell_supervisor("READY=1");
+        tell_room(rt);
     }
 }
 
@@ -339,6 +345,7 @@ where
             }
             let token = settle(rt, start, off);
             let begun = *start.value(&token);
+            tell_begun(rt, begun);
             let site = Site {
                 rt,
                 desk,

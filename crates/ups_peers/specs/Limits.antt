@@ -1,5 +1,5 @@
 -- The limits of a server for its peers, and their defaults.
-use Rattle.std.specs.Prelude.{ℕ}
+use Rattle.std.specs.Prelude.{ℕ, zero, suc, ◌-◌, Bool, true, false}
 
 -- the greatest number of associations served at the same time
 abbrev pub workers_limit : ℕ
@@ -24,6 +24,17 @@ timeout_seconds = 60
 -- the default: the seconds that a watcher may take for each answer and, unless it is quick, to open an association
 abbrev pub delivery_seconds : ℕ
 delivery_seconds = 5
+
+-- the default: the event reports that may wait for one watcher
+abbrev pub default_waiting : ℕ
+default_waiting = 500000
+
+-- the number of event reports that are given up of those that wait for a watcher: all if it has no address; otherwise those
+-- beyond a limit, where 0 stands for none
+abbrev pub excess : Bool → ℕ → ℕ → ℕ
+excess false limit waiting = waiting
+excess true zero waiting = 0
+excess true (suc n) waiting = waiting - suc n
 
 -- the greatest number of records appended to the store before it is compacted
 abbrev pub compact_at_limit : ℕ

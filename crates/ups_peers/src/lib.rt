@@ -6,6 +6,6 @@ mod watcher;
 
 pub use limits::{
     COMPACT_AT, DELIVERY_TIMEOUT, IDLE, MAX_COMPACT_AT, MAX_WORKERS, ServerLimits, TIMEOUT, TURNS,
-    WORKERS, limits_are_as_defined,
+    WAITING, WORKERS, limits_are_as_defined,
 };
-pub use watcher::Watcher;
+pub use watcher::{Watcher, WatcherAddress};

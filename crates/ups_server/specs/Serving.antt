@@ -4,7 +4,7 @@ use Rattle.std.specs.Global.{Global}
 use Rattle.atomic_table.specs.Seated.{TableId}
 use Rattle.clap.specs.Matches.{first_value}
 use Rattle.clap.specs.declared.parser.matches.Found.{Found}
-use Rattle.ups_args.specs.Arguments.{IsFlag, NamePeers, NameWatchers, SaysCompactAtOrNot, SaysDeliveryTimeout, SaysIdle, SaysKeep, SaysOffset, SaysTimeout, SaysWorkersOrNot, argument_words}
+use Rattle.ups_args.specs.Arguments.{IsFlag, NamePeers, NameWatchers, SaysCompactAtOrNot, SaysDeliveryTimeout, SaysIdle, SaysKeep, SaysOffset, SaysTimeout, SaysWaiting, SaysWorkersOrNot, argument_words}
 use Rattle.ups_args.specs.declared.server.ServeArguments.{ServeArguments}
 use Rattle.ups_ledger.specs.declared.keeper.Keeper.{Keeper}
 use Rattle.ups_ledger.specs.declared.ledger.Ledger.{Ghosts}
@@ -68,6 +68,7 @@ pub record AreWords (found : Found) (asked : ServeArguments) : Type 0 where
   pub idle : SaysIdle (first_value found (codes "idle")) asked.limits.idle
   pub timeout : SaysTimeout (first_value found (codes "timeout")) asked.limits.timeout
   pub delivery_timeout : SaysDeliveryTimeout (first_value found (codes "delivery-timeout")) asked.limits.delivery_timeout
+  pub waiting : SaysWaiting (first_value found (codes "waiting")) asked.limits.waiting
   pub compact_at : SaysCompactAtOrNot (first_value found (codes "compact-at")) asked.limits.compact_at
   pub check : IsFlag found (codes "check") asked.check
   pub verbose : IsFlag found (codes "verbose") asked.verbose

@@ -14,18 +14,21 @@ use crate::telling::tell_settings;
 use clap::ArgMatches;
 use log::{Log, info, warn};
 use std::alloc::{AllocError, Global};
-use std::str;
+use std::{io, str};
 use ups_args::{ArgumentFault, ServeArguments, serve_arguments};
 use ups_ledger::Ledger;
-use ups_peers::Watcher;
+use ups_peers::{Watcher, WatcherAddress};
 use ups_transport::Network;
 
 /// Looks the host of a watcher up, and logs its addresses, or that it has none: a server starts all the same, and looks it
 /// up again for each delivery.
 fn tell_addresses<R: Network + Log>(rt: &R, watcher: &Watcher) {
+    let Some(WatcherAddress { host, port }) = &watcher.address else {
+        return;
+    };
     let title = str::from_utf8(watcher.ae.as_bytes()).unwrap_or("");
-    let host = watcher.host.as_str();
-    let addresses = match rt.look_up(host, watcher.port) {
+    let host = host.as_str();
+    let addresses = match rt.look_up(host, *port) {
         Ok(addresses) => addresses,
         Err(fault) => {
             warn!(rt; target: "upsd", "watcher {title}: {host} has no address, {fault}");
@@ -40,42 +43,76 @@ fn tell_addresses<R: Network + Log>(rt: &R, watcher: &Watcher) {
     }
 }
 
-/// Returns whether a server can listen on the address that the command line names, at any port that is free, and prints
-/// it if not. Its own port may be that of a running server.
-fn can_listen<R: Network + Eprint>(rt: &R, asked: &ServeArguments<'_>) -> bool {
-    match rt.listen(asked.bind, 0) {
+/// Prints why a server can't listen at an address and a port; port 0 stands for any.
+pub(crate) fn tell_unheard<R: Eprint>(rt: &R, bind: &str, port: u16, fault: io::Error) {
+    let _ = match port {
+        0 => eprintln!(rt; "upsd: it can't listen on {bind}: {fault}"),
+        _ => eprintln!(rt; "upsd: it can't listen on {bind}, port {port}: {fault}"),
+    };
+}
+
+/// Returns whether a server can listen at an address and a port, or any port if it is 0, and prints it if not.
+pub(crate) fn can_listen<R: Network + Eprint>(rt: &R, bind: &str, port: u16) -> bool {
+    match rt.listen(bind, port) {
         Ok(_) => true,
         Err(fault) => {
-            let _ = eprintln!(rt; "upsd: it can't listen on {}: {fault}", asked.bind);
+            tell_unheard(rt, bind, port, fault);
             false
         }
     }
 }
 
-/// Returns whether a server can use the store that the command line names, if it names one, after printing why not.
+/// Returns the port at which a start can be tried beside a running server on this port: any, if it is the same one, or if
+/// none runs that is known.
+fn port_to_try(asked: u16, taken: Option<u16>) -> u16 {
+    match taken {
+        Some(port) if port != asked => asked,
+        _ => 0,
+    }
+}
+
+/// What a look at the store of a server found.
+#[derive(Clone, Copy, Debug, PartialEq, Eq)]
+struct LookedAt {
+    /// Whether a start can use it.
+    is_usable: bool,
+    /// The port of the server that has it, if one has it.
+    taken: Option<u16>,
+}
+
+/// Looks at the store that the command line names, if it names one, and prints why a server can't use it.
 ///
 /// Errors: lack of memory.
-fn can_use_store<'a, L: Ledger, O: StoreOpener<'a, L>>(
+fn look_at_store<'a, L: Ledger, O: StoreOpener<'a, L>>(
     alloc: Global,
     opener: &O,
     asked: &ServeArguments<'a>,
-) -> Result<bool, AllocError>
+) -> Result<LookedAt, AllocError>
     requires few { length asked.now.peers.items ≤ peer_limit }
     requires allowed { refusal asked.now.peers.items asked.now.offset history_limit ≡ None }
 {
     let Some(file) = asked.store else {
-        return Ok(true);
+        return Ok(LookedAt {
+            is_usable: true,
+            taken: None,
+        });
     };
     let manager = new_manager(alloc, asked)?;
     match opener.look(file, asked.choices, &manager) {
-        Ok(()) => Ok(true),
-        Err(Unopened::Told) => Ok(false),
+        Ok(taken) => Ok(LookedAt {
+            is_usable: true,
+            taken,
+        }),
+        Err(Unopened::Told) => Ok(LookedAt {
+            is_usable: false,
+            taken: None,
+        }),
         Err(Unopened::Memory) => Err(AllocError),
     }
 }
 
-/// Parses the words of `serve`, and looks at what a start would find: the addresses of the watchers, the address to
-/// listen on, and the store. Nothing is served, no request is entered, and no run begins. Returns whether a server can
+/// Parses the words of `serve`, and looks at what a start would find: the addresses of the watchers, the store, and the
+/// address to listen on, with its port if a server has the store that listens on another one. Nothing is served, no request is entered, and no run begins. Returns whether a server can
 /// start, as far as that can be seen, after printing why not. A watcher without an address is only logged.
 ///
 /// # Errors
@@ -96,7 +133,7 @@ where
     for watcher in asked.watchers.iter() {
         tell_addresses(rt, watcher);
     }
-    let can_listen = can_listen(rt, &asked);
-    let can_use_store = can_use_store(rt.alloc(), opener, &asked)?;
-    Ok(can_listen && can_use_store)
+    let store = look_at_store(rt.alloc(), opener, &asked)?;
+    let can_listen = can_listen(rt, asked.bind, port_to_try(asked.port, store.taken));
+    Ok(can_listen && store.is_usable)
 }

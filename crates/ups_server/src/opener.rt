@@ -50,7 +50,8 @@ pub trait StoreOpener<'a, L: Ledger> {
         ensures all { IfOk result (λ kept. kept.1 ≡ length manager.new.history) };
 
     /// Looks at the store in a file as a start with the settings of a manager does first, without a start: no request is
-    /// entered, and no run begins. A store that another process uses is not read.
+    /// entered, and no run begins. Of a store that a running server has, only what that told of its terms is read; the port
+    /// on which it listens is returned, or None if no server has the store.
     ///
     /// # Errors
     ///
@@ -60,5 +61,5 @@ pub trait StoreOpener<'a, L: Ledger> {
         file: &'a str,
         choices: StartChoices,
         manager: &Manager<Global>,
-    ) -> Result<(), Unopened>;
+    ) -> Result<Option<u16>, Unopened>;
 }

@@ -13,6 +13,7 @@ ghost use Rattle.ups_service.specs.Law.{is_legal};
 ghost use Rattle.ups_turn.specs.Pass.{passes_from, EndsFor};
 ghost use Rattle.ups_server.specs.Serving.{deliverers_of, seats_of, settings_asked, BeginsOn, HasBegun, RanAsAsked, RanAsWords};
 
+use crate::checking::{can_listen, tell_unheard};
 use crate::opener::{StoreOpener, Unopened};
 use crate::telling::tell_settings;
 use clap::ArgMatches;
@@ -100,8 +101,7 @@ struct Begun<L: Ledger> {
     keeper: Option<Keeper<L>>,
 }
 
-/// Listens where the command line says. Prints the port if port 0 was requested, so that a client can be told, and tells
-/// the supervisor that the server is ready.
+/// Listens where the command line says. Prints the port if port 0 was requested, so that a client can be told.
 ///
 /// Errors: those of the network, and of the output.
 fn listen<R: Network + Print + Log>(rt: &R, asked: &ServeArguments<'_>) -> io::Result<Door> {
@@ -113,7 +113,6 @@ fn listen<R: Network + Print + Log>(rt: &R, asked: &ServeArguments<'_>) -> io::R
     }
     let title = str::from_utf8(asked.ae.as_bytes()).unwrap_or("");
     info!(rt; target: "upsd", "{title} listens on {address} with {} workers", asked.limits.workers);
-    rt.tell_supervisor("READY=1");
     Ok(door)
 }
 
@@ -254,6 +253,13 @@ fn commits_of<K: Keeping, L: Ledger>(keeper: &Option<Keeper<L>>) -> Commits<K>
     }
 }
 
+/// Tells the counts of a server how many steps its manager begins with, unless memory runs out for that.
+fn note_steps<K: Keeping>(state: &ServerState<K>, manager: &Manager<Global>) {
+    if let Ok(steps) = manager.held() {
+        state.begin_with(steps.len() as u64);
+    }
+}
+
 /// Runs a server as `serve_on` does. While a connection sends something, what `K` says holds of as many entries as its
 /// pass has seen: anything that follows from what a ledger has had, or if none is kept, anything.
 ///
@@ -286,6 +292,7 @@ where
     let Ok(state) = ServerState::new(alloc, door, watchers, deliverers, commits) else {
         return Err(AllocError);
     };
+    note_steps(&state, &manager);
     let seats = asked.limits.workers + deliverers + 1;
     let Ok((desk, passes)) = Desk::open(alloc, manager, seats) else {
         return Err(AllocError);
@@ -359,16 +366,17 @@ where
     ensures safe { IfOk result (λ left. IfSome left (λ server. AreSafe L.Ledger server.keeper (seen_last server.passes.items))) }
 {
     tell_settings(rt, &asked);
+    // Before a run begins in the store, which may give it a new format.
+    if !can_listen(rt, asked.bind, asked.port) {
+        return Ok(None);
+    }
     let Some(begun) = begin(rt.alloc(), opener, &asked)? else {
         return Ok(None);
     };
     match listen(rt, &asked) {
         Ok(door) => Ok(Some(serve_on(rt, door, asked, begun, associations, rounds)?)),
         Err(fault) => {
-            let _ = eprintln!(rt;
-                "upsd: it can't listen on {}, port {}: {fault}",
-                asked.bind, asked.port
-            );
+            tell_unheard(rt, asked.bind, asked.port, fault);
             Ok(None)
         }
     }

@@ -2,6 +2,7 @@ mod Behind
 mod Carried
 mod Digested
 mod First
+mod Granted
 mod Leaves
 mod Permitted
 mod Said

@@ -9,3 +9,4 @@ pub mod Alike
 pub mod Reopened
 pub mod Digested
 pub mod Carried
+pub mod Granted

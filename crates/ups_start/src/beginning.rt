@@ -17,6 +17,7 @@ ghost use Rattle.ups_start.specs.Started.{said, moment_in, without_compaction};
 use crate::carrying::compacted_anew;
 use crate::compacting::{compacted, emptied, tell_compacted};
 use crate::fault::StartFault;
+use crate::granting::settle_locks;
 use crate::ledger::StoreLedger;
 use crate::naming::LedgerNaming;
 use crate::place::StorePlace;
@@ -47,7 +48,8 @@ pub(crate) struct StartedRun<S: Store> {
     ghost digested: { IsClean (requests_shown store) → digest ≡ digest_of (said (requests store)) },
 }
 
-/// Begins a run in a store, all of whose requests were read, and gives it the present format.
+/// Begins a run in a store, all of whose requests were read, and gives it the present format first, which earlier versions
+/// refuse: so by then nothing may refuse the start any more but lost requests and the disk.
 ///
 /// Errors: Write, with Short if requests that an earlier run had committed are lost; Read if not all were read.
 pub(crate) fn begin_run<S: Alter + Drop>(
@@ -378,8 +380,9 @@ fn begin_in<P: StorePlace, R: Clock + Log>(
 /// of all requests from now on, over one that has the name which `naming` gives it.
 ///
 /// The settings of the manager have to permit as much as the terms that the last run noted, unless the choices allow
-/// other terms. The terms that this run notes, in `about`, should be those of these settings
-/// ([`terms_text`](ups_terms::terms_text)).
+/// other terms. A right to lock steps that they give holds from now on: the subscriptions whose lock was not granted before
+/// stay without one, and are recorded so first, in a run under the terms of the last one. The terms that this run notes,
+/// in `about`, should be those of these settings ([`terms_text`](ups_terms::terms_text)).
 ///
 /// # Errors
 ///
@@ -410,6 +413,7 @@ pub fn begin<
     ensures all { IfOk result (λ k. k.committed ≡ length manager.new.history) }
     ensures compacts { IfOk result (λ k. k.ledger.compaction.empty.settings ≡ manager.new.settings) }
 {
+    settle_locks(alloc, telling, &place, choices, &about, manager)?;
     let begun = begin_in(alloc, telling, &place, choices, &about, manager)?;
     let empty = emptied(alloc, manager)?;
     let committed = manager.entries();

@@ -18,6 +18,7 @@ use crate::beginning::{begin_run, opened};
 use crate::carrying::{carry_all, steps_to_keep};
 use crate::compacting::{compacted_to, moment_of};
 use crate::fault::StartFault;
+use crate::granting::settle_locks;
 use crate::place::StorePlace;
 use crate::reading::Reading;
 use crate::rewriting::rewritten;
@@ -212,6 +213,7 @@ pub fn compact<P: StorePlace, R: Clock + Log>(
     ensures permits { OnOk result ((found : View) × P.finds place.now found × (shrunk : RequestStore P.Store P.Store.Store) × (choices.may_change_terms ≡ false → IsClean (requests_shown shrunk) → PermitsNoted manager.old.settings (terms_shown found))) }
     ensures settings { manager.new.settings ≡ manager.old.settings }
 {
+    settle_locks(alloc, telling, place, choices, about, manager)?;
     let replay = opened(place)?;
     let shrunk = compact_over(alloc, telling, replay, choices, about, manager, fresh)?;
     let compacted = closed::<P>(shrunk)?;

@@ -3,6 +3,7 @@
 ghost use Rattle.std.specs.Prelude.{◌≡◌, [], Some, false, IfOk, OnOk};
 ghost use Rattle.sqlite_trees.specs.View.{View, IsClean};
 ghost use Rattle.ups_store.specs.declared.reading.Replay.{Replay};
+ghost use Rattle.ups_store.specs.Runs.{last_requests};
 ghost use Rattle.ups_store.specs.Shown.{shown_by, all_of, given_out, last_terms_of};
 ghost use Rattle.ups_start.specs.Noted.{IsTextOf, PermitsNoted, AreNoted};
 ghost use Rattle.ups_start.specs.Opened.{terms_shown};
@@ -31,7 +32,7 @@ fn tell_allowed<R: Log>(telling: &R, fault: &StartFault) {
 /// Reads the terms that a run noted.
 ///
 /// Errors: UnreadableTerms; Memory.
-fn terms_of(alloc: Global, text: &[u8]) -> Result<Terms<Global>, StartFault>
+pub(crate) fn terms_of(alloc: Global, text: &[u8]) -> Result<Terms<Global>, StartFault>
     ensures { IfOk result (IsTextOf text.now) }
 {
     match parse_terms(alloc, text) {
@@ -57,10 +58,37 @@ fn check_text(alloc: Global, text: &[u8], manager: &Manager<Global>) -> Result<(
     }
 }
 
+/// Checks that the settings of a manager permit as much as the terms in a text, which a run noted, or logs that they do
+/// not if that is allowed.
+///
+/// # Errors
+///
+/// Terms, UnreadableTerms, Memory.
+pub fn look_at_terms<R: Log>(
+    alloc: Global,
+    telling: &R,
+    text: &[u8],
+    manager: &Manager<Global>,
+    may_change: bool,
+) -> Result<(), StartFault>
+    ensures { OnOk result (may_change ≡ false → PermitsNoted manager.now.settings (Some text.now)) }
+{
+    match check_text(alloc, text, manager) {
+        Ok(()) => Ok(()),
+        Err(fault) if may_change && fault != StartFault::Memory => {
+            tell_allowed(telling, &fault);
+            Ok(())
+        }
+        Err(fault) => Err(fault),
+    }
+}
+
 /// Reads the terms that the last run on a store noted. The store was just opened.
 ///
 /// Errors: Read.
-fn noted_in<S: Store>(replay: &mut Replay<S>) -> Result<Option<Bytes<Global>>, StartFault>
+pub(crate) fn noted_in<S: Store>(
+    replay: &mut Replay<S>,
+) -> Result<Option<Bytes<Global>>, StartFault>
     ensures noted { IfOk result (λ noted. IsClean (shown_by replay.new) → noted ≡ last_terms_of replay.old) }
     ensures same { OnOk result (IsClean (shown_by replay.new) → all_of replay.new ≡ all_of replay.old) }
     ensures first { OnOk result (given_out replay.new ≡ []) }
@@ -96,13 +124,24 @@ pub(crate) fn check_terms<S: Store, R: Log>(
         tell_none(telling);
         return Ok(());
     };
-    match check_text(alloc, text.as_slice(), manager) {
+    match look_at_terms(alloc, telling, text.as_slice(), manager, may_change) {
         Ok(()) => Ok(()),
-        Err(fault) if may_change && fault != StartFault::Memory => {
-            tell_allowed(telling, &fault);
-            Ok(())
-        }
         Err(fault) => Err(fault),
+    }
+}
+
+/// Reads how many requests the row of the last run counts. The store was just opened.
+///
+/// Errors: Read.
+pub(crate) fn counted_in<S: Store>(replay: &mut Replay<S>) -> Result<u64, StartFault>
+    ensures counted { IfOk result (λ counted. IsClean (shown_by replay.new) → counted ≡ last_requests ((shown_by replay.old).committed 1)) }
+    ensures same { OnOk result (IsClean (shown_by replay.new) → all_of replay.new ≡ all_of replay.old) }
+    ensures first { OnOk result (given_out replay.new ≡ []) }
+    ensures clean { IsClean (shown_by replay.new) → IsClean (shown_by replay.old) }
+{
+    match replay.last_requests() {
+        Ok(counted) => Ok(counted),
+        Err(fault) => Err(StartFault::Read(fault)),
     }
 }
 

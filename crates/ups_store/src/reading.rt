@@ -8,10 +8,11 @@ ghost use Rattle.ups_store.specs.declared.reading.Phase.TheVariants.{Fresh, Read
 ghost use Rattle.ups_store.specs.Taken.{TakesNext, IsLow};
 ghost use Rattle.ups_store.specs.Faults.{HasReason};
 ghost use Rattle.ups_store.specs.Rows.{table_in, IsNumbered};
+ghost use Rattle.ups_store.specs.Runs.{last_requests};
 
 use crate::fault::StoreFault;
 use crate::request::{self, StoredRequest};
-use crate::runs::last_terms;
+use crate::runs::{last_requests, last_terms};
 use crate::store::RequestStore;
 use sqlite_trees::error::StoreError;
 use sqlite_trees::store::{Direction, Store};
@@ -156,6 +157,33 @@ impl<S: Store> Replay<S> {
         let terms = last_terms(self.alloc, &mut self.store, &mut self.row)?;
         self.phase = Phase::Fresh;
         Ok(terms)
+    }
+
+    /// Returns how many requests the row of the last run counts, or 0 if there is no run: a store with fewer has lost some.
+    /// Call it before the first request is read; the reading then goes on as if it had not been called.
+    ///
+    /// Errors: Memory, Disk, Damaged, Full; Shut after an error, or once a request was asked for.
+    pub fn last_requests(&mut self) -> Result<u64, StoreFault>
+        ensures requests { IfOk result (λ requests. IsClean (shown_by self.new) → requests ≡ last_requests ((shown_by self.old).committed 1)) }
+        ensures same { OnOk result (IsClean (shown_by self.new) → (shown_by self.new).committed ≡ (shown_by self.old).committed) }
+        ensures first { OnOk result (given_out self.new ≡ []) }
+        ensures cause { IsClean (shown_by self.new) → IfErr result (HasReason (record {
+          Failed = MoreFaults (S.Store.faults self.old.store) (S.Store.faults self.new.store);
+          WasShut = IsUnderWay self.old;
+          IsTooLarge = ⊥;
+          AreTooMany = ⊥;
+          IsNotRequest = ⊥;
+        })) }
+        ensures quiet { IsQuiet S.Store.view S.Store.faults S.Store.recovers S.Store.is_shielded self.old.store self.new.store }
+    {
+        match self.phase {
+            Phase::Fresh => {}
+            _ => return Err(StoreFault::Shut),
+        }
+        self.phase = Phase::Failed;
+        let requests = last_requests(&mut self.store, &mut self.row)?;
+        self.phase = Phase::Fresh;
+        Ok(requests)
     }
 
     /// Moves the cursor to the first request.

@@ -25,6 +25,9 @@ use ups_pdu::Bytes;
 /// The number of the tree of runs.
 pub(crate) const RUNS: u32 = 1;
 
+/// The column of the number of requests in the row of a run.
+const REQUESTS: usize = 5;
+
 /// The column of the terms in the row of a run.
 const TERMS: usize = 6;
 
@@ -160,6 +163,17 @@ pub(crate) fn last_terms<S: Store>(
     Ok(cells::bytes_in(alloc, row.get(TERMS))?)
 }
 
+/// Returns how many requests the row of the last run counts, or 0 if there is no run.
+pub(crate) fn last_requests<S: Store>(store: &mut S, row: &mut Row) -> Result<u64, StoreError>
+    ensures requests { IfOk result (λ requests. IsClean (S.Store.view store.new) → requests ≡ last_requests ((S.Store.view store.old).trees 1)) }
+    ensures same { OnOk result (IsClean (S.Store.view store.new) → S.Store.view store.new ≡ record (S.Store.view store.old) { cursors = (S.Store.view store.new).cursors }) }
+    ensures cause { IsClean (S.Store.view store.new) → IfErr result (HasCause (S.Store.view store.old) (MoreFaults (S.Store.faults store.old) (S.Store.faults store.new)) ⊥) }
+    ensures quiet { IsQuiet S.Store.view S.Store.faults S.Store.recovers S.Store.is_shielded store.old store.new }
+{
+    read_last(store, row, RUNS)?;
+    Ok(cells::number_in(row.get(REQUESTS)))
+}
+
 /// Returns the number of the run with this row if it began a hundred runs or more before the run `number`.
 fn old_in(row: &Row, number: u64) -> Option<i64>
     ensures old { result ≡ old_in number (rowid row.now) }
@@ -254,7 +268,7 @@ fn number_behind(last: &Row, requests: u64) -> Result<u64, StoreFault>
       IsNotRequest = ⊥;
     }) (requests < number_in (column last.now 5))) }
 {
-    if cells::number_in(last.get(5)) > requests {
+    if cells::number_in(last.get(REQUESTS)) > requests {
         return Err(StoreFault::Short);
     }
     let number = cells::number_in(last.get(0));

@@ -8,7 +8,7 @@ use crate::wire_fault::WireFault;
 use std::alloc::Global;
 use std::cell::Cell;
 use std::io::{self, ErrorKind, Read, Write};
-use std::net::{TcpListener, TcpStream};
+use std::net::TcpStream;
 use std::time::Duration;
 use ups_ledger::{CommitDue, Committed, Keeping, Noted};
 use ups_pdu::{Pdu, write_pdu};
@@ -164,16 +164,6 @@ impl<'a> Inlet<'a> {
     /// Returns whether something comes within `milliseconds`, or the connection ends.
     pub(crate) fn has_come(&self, milliseconds: i32) -> bool {
         socket::has_come(self.stream, milliseconds)
-    }
-
-    /// Returns whether something comes within `milliseconds`, or the connection ends; and whether a connection waits at a
-    /// listener. The first of these ends the wait.
-    pub(crate) fn which_have_come(
-        &self,
-        listener: &TcpListener,
-        milliseconds: i32,
-    ) -> (bool, bool) {
-        socket::which_have_come(self.stream, listener, milliseconds)
     }
 }
 

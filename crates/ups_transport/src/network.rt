@@ -1,10 +1,11 @@
 //! The network of a runtime, whatever it logs to.
 
 use crate::backlog::{list_of, waiting_at};
+use crate::memory::{ProcessMemory, limit_in, memory_in};
 use crate::supervisor::send_to;
 use log::Handle;
-use std::fs::Permissions;
-use std::io::{self, BufReader, Write};
+use std::fs::{File, Permissions};
+use std::io::{self, BufReader, ErrorKind, Write};
 use std::net::{SocketAddr, TcpListener, TcpStream, ToSocketAddrs};
 use std::os::unix::fs::PermissionsExt;
 use std::time::Duration;
@@ -44,12 +45,20 @@ pub trait Network {
     /// system does not tell.
     fn waiting_at(&self, address: SocketAddr) -> Option<u64>;
 
+    /// Returns how much memory this process has, or None if the system does not tell.
+    fn memory(&self) -> Option<ProcessMemory>;
+
+    /// Returns how many bytes this process may have addresses for, or None if there is no limit, or the system does not
+    /// tell.
+    fn memory_limit(&self) -> Option<u64>;
+
     /// Tells the supervisor of the service, such as systemd, how it is: lines of sd_notify(3), as `READY=1`. Does
     /// nothing if there is no supervisor that asks to be told (`NOTIFY_SOCKET`).
     fn tell_supervisor(&self, state: &str);
 
     /// Puts bytes in the place of a file, which everybody may read. They are written to another file beside it, with
-    /// `.new` behind its name, which then takes its name: so who reads the file never sees a part of them.
+    /// `.new` behind its name, which then takes its name: so who reads the file never sees a part of them. That file is
+    /// made anew: a file or link that has its name before is removed, and nothing is written through it.
     ///
     /// # Errors
     ///
@@ -59,6 +68,16 @@ pub trait Network {
 
 /// Who may read a file that is put in the place of another: everybody, whatever the umask is.
 const FOR_ALL: u32 = 0o644;
+
+/// Removes a file or a link, if there is one of this name.
+///
+/// Errors: if it can't be removed.
+fn remove(rt: &HostRuntime, file: &str) -> io::Result<()> {
+    match fs::remove_file(rt, file) {
+        Err(fault) if fault.kind() != ErrorKind::NotFound => Err(fault),
+        _ => Ok(()),
+    }
+}
 
 impl Network for HostRuntime {
     fn look_up(&self, host: &str, port: u16) -> io::Result<Vec<SocketAddr>> {
@@ -86,6 +105,16 @@ impl Network for HostRuntime {
         waiting_at(self.alloc(), list, address)
     }
 
+    fn memory(&self) -> Option<ProcessMemory> {
+        let status = fs::open(self, "/proc/self/status").ok()?;
+        memory_in(self.alloc(), BufReader::new(self.alloc(), status).ok()?)
+    }
+
+    fn memory_limit(&self) -> Option<u64> {
+        let limits = fs::open(self, "/proc/self/limits").ok()?;
+        limit_in(self.alloc(), BufReader::new(self.alloc(), limits).ok()?)
+    }
+
     fn tell_supervisor(&self, state: &str) {
         if let Ok(path) = env::var(self, "NOTIFY_SOCKET") {
             send_to(path.as_str(), state);
@@ -94,7 +123,8 @@ impl Network for HostRuntime {
 
     fn replace_file(&self, file: &str, bytes: &[u8]) -> io::Result<()> {
         let beside = format!(in self.alloc(); "{file}.new")?;
-        let mut written = fs::create(self, beside.as_str())?;
+        remove(self, beside.as_str())?;
+        let mut written = File::create_new(self, beside.as_str())?;
         written.set_permissions(Permissions::from_mode(FOR_ALL))?;
         written.write_all(bytes)?;
         drop(written);
@@ -117,6 +147,14 @@ impl<R: Network, L> Network for Handle<R, L> {
 
     fn waiting_at(&self, address: SocketAddr) -> Option<u64> {
         self.inner().waiting_at(address)
+    }
+
+    fn memory(&self) -> Option<ProcessMemory> {
+        self.inner().memory()
+    }
+
+    fn memory_limit(&self) -> Option<u64> {
+        self.inner().memory_limit()
     }
 
     fn tell_supervisor(&self, state: &str) {

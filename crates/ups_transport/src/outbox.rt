@@ -31,6 +31,12 @@ pub(crate) trait Pace {
     ///
     /// TimedOut if the time of the peer is over; those of the clock.
     fn left_to_write(&self) -> Result<Option<Duration>, WireFault>;
+
+    /// Notes that so many bytes left.
+    fn note_written(&self, count: usize);
+
+    /// Returns whether a write that waited in vain is to be tried again, if its time is not over.
+    fn tries_again(&self) -> bool;
 }
 
 /// The bytes that wait to be sent on a connection. All that is sent on it leaves here.
@@ -59,7 +65,15 @@ impl<'a, P: Pace, D: Departing, K: Keeping, S: Sink> Departure<'a, P, D, K, S> {
         ensures { IfOk result (λ count. count ≤ length buf.now) }
     {
         self.outward.set_limit(self.pace.left_to_write()?)?;
-        self.outward.write_backed(self.due, self.committed, buf)
+        let written = self.outward.write_backed(self.due, self.committed, buf);
+        match written {
+            Ok(count) => self.pace.note_written(count),
+            Err(fault) if fault.is_late() && self.pace.tries_again() => {
+                return Err(WireFault::of(ErrorKind::Interrupted));
+            }
+            Err(_) => {}
+        }
+        written
     }
 }
 

@@ -46,18 +46,10 @@ pub(crate) fn has_come(stream: &TcpStream, milliseconds: i32) -> bool {
     poll(&mut asked, milliseconds) > 0 && asked[0].revents != 0
 }
 
-/// Returns whether something comes on a connection within `milliseconds`, or it ends; and whether a connection waits at
-/// a listener. The first of these ends the wait.
-pub(crate) fn which_have_come(
-    stream: &TcpStream,
-    listener: &TcpListener,
-    milliseconds: i32,
-) -> (bool, bool) {
-    let mut asked = [asked_of(stream.as_raw_fd()), asked_of(listener.as_raw_fd())];
-    if poll(&mut asked, milliseconds) <= 0 {
-        return (false, false);
-    }
-    (asked[0].revents != 0, asked[1].revents != 0)
+/// Returns whether a connection waits at a listener.
+pub(crate) fn is_waited(listener: &TcpListener) -> bool {
+    let mut asked = [asked_of(listener.as_raw_fd())];
+    poll(&mut asked, 0) > 0 && asked[0].revents != 0
 }
 
 /// Makes a connection send each answer at once (TCP_NODELAY), and end each read and write that takes longer than a

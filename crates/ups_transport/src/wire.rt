@@ -6,7 +6,7 @@ ghost use Rattle.ups_transport.specs.Leaving.{HasLeft};
 
 use crate::arrival::Arrival;
 use crate::connection::{Inlet, is_shorter};
-use crate::grace::{Pressure, Seen, Stay};
+use crate::grace::{Activity, Pressure, Seen, Stay};
 use crate::outbox::{CommitWait, Outbox, Pace};
 use crate::outward::Departing;
 use crate::patience::{Patience, left_of};
@@ -115,6 +115,9 @@ pub struct Wire<'a, R: Wait + Clock + Log, D: Departing, K: Keeping, S: Sink> {
     is_speaking: Cell<bool>,
     /// What the association may have to make way for.
     pressure: Option<Pressure<'a>>,
+    /// The number of bytes that came of the message that began at `begun`, and that left since `answering`.
+    come: Cell<u32>,
+    gone: Cell<u32>,
     /// The number of answers to send before memory is set aside again.
     answers: Cell<u32>,
     /// The account that learns of all that is read and sent, if there is one.
@@ -147,11 +150,18 @@ fn left_since<R: Clock>(
     }
 }
 
-/// The shortest time that a read may wait, in milliseconds.
-const LEAST: u64 = 1;
+/// How long a read waits before it is looked whether others wait, and how long a write does, in milliseconds.
+const READ_LOOK: u64 = 500;
+
+const WRITE_LOOK: u64 = 100;
 
 /// The longest time of one wait for the peer and the door, in milliseconds.
 const MINUTE: i32 = 60_000;
+
+/// Returns a number of bytes and that of further ones together.
+fn added(bytes: u32, more: usize) -> u32 {
+    bytes.saturating_add(u32::try_from(more).unwrap_or(u32::MAX))
+}
 
 /// Returns a time in whole milliseconds: at least one, and at most a minute, which also stands for no limit.
 fn whole_milliseconds(time: Option<Duration>) -> i32 {
@@ -204,6 +214,8 @@ impl<'a, R: Wait + Clock + Log, D: Departing, K: Keeping, S: Sink> Wire<'a, R, D
             aborted: Cell::new(None),
             is_speaking: Cell::new(false),
             pressure,
+            come: Cell::new(0),
+            gone: Cell::new(0),
             answers: Cell::new(0),
             account,
         }
@@ -365,8 +377,15 @@ impl<'a, R: Wait + Clock + Log, D: Departing, K: Keeping, S: Sink> Wire<'a, R, D
             self.answering.set(None);
         }
         if is_asked || self.begun.get().is_some() {
-            self.begun.set(Some(Instant::now(self.rt)?));
+            self.begin()?;
         }
+        Ok(())
+    }
+
+    // Notes that a message begins, or the time for it.
+    fn begin(&self) -> Result<(), WireFault> {
+        self.come.set(0);
+        self.begun.set(Some(Instant::now(self.rt)?));
         Ok(())
     }
 
@@ -388,7 +407,9 @@ impl<'a, R: Wait + Clock + Log, D: Departing, K: Keeping, S: Sink> Wire<'a, R, D
         if is_request && arrival.is_between() {
             self.begun.set(None);
         } else if self.begun.get().is_none() || (is_request && is_ended) {
-            self.begun.set(Some(Instant::now(self.rt)?));
+            self.begin()?;
+        } else {
+            self.come.set(added(self.come.get(), bytes.len()));
         }
         Ok(())
     }
@@ -436,50 +457,30 @@ impl<'a, R: Wait + Clock + Log, D: Departing, K: Keeping, S: Sink> Wire<'a, R, D
         }
     }
 
-    // Returns what the association may have to make way for now.
-    fn pressure_now(&self) -> Option<Pressure<'a>> {
-        let has_asked = match self.account {
-            Some(account) => account.has_asked(),
-            None => false,
+    // Returns what the association does, and for how long already, if nothing has come for `waited`.
+    fn activity(&self, waited: Duration) -> (Activity, Duration) {
+        let elapsed = match self.begun.get() {
+            Some(begun) => begun.elapsed(self.rt).unwrap_or(waited),
+            None => waited,
         };
-        Some(self.pressure?.on(has_asked))
+        let activity = match (self.is_open.get(), self.begun.get()) {
+            (true, None) => Activity::Idle,
+            (true, Some(_)) => Activity::Moving(self.come.get()),
+            (false, _) => Activity::Opening,
+        };
+        (activity, elapsed)
     }
 
-    // Returns how long the peer may say nothing while others wait, if it may have to make way: with an association request
-    // that has begun, or with an association that is idle or waits for the rest of a message.
-    fn grace(&self, pressure: Pressure<'a>) -> Option<Duration> {
-        match (self.is_open.get(), self.begun.get()) {
-            (true, None) => Some(pressure.for_idle()),
-            (true, Some(_)) => Some(pressure.for_message()),
-            (false, Some(begun)) => {
-                let elapsed = begun.elapsed(self.rt).unwrap_or(Duration::ZERO);
-                Some(
-                    pressure
-                        .for_request()
-                        .saturating_sub(elapsed)
-                        .max(Duration::from_millis(LEAST)),
-                )
-            }
-            _ => None,
-        }
-    }
-
-    // Waits, after the grace, until the peer says something. Makes way if others wait at the door meanwhile.
+    // Waits until the peer says something. Makes way if others wait at the door meanwhile.
     //
     // Errors: TimedOut if it makes way, or the rest of its time is over; those of the clock.
     #[cold]
-    fn stay(&self, pressure: Pressure<'a>, rest: Option<Duration>) -> Result<(), WireFault> {
+    fn stay(&self, stay: &mut Stay<'a>, rest: Option<Duration>) -> Result<(), WireFault> {
         let since = Instant::now(self.rt)?;
-        let mut stay = Stay::new(self.rt, pressure, self.is_open.get());
         for _ in 0..u64::MAX {
-            let Ok(left) = left_since(self.rt, rest, Some(since)) else {
-                break;
-            };
-            match stay.look(&self.inlet, whole_milliseconds(left)) {
-                Seen::Peer => {
-                    stay.end();
-                    return Ok(());
-                }
+            let left = left_since(self.rt, rest, Some(since))?;
+            match stay.look(self.rt, &self.inlet, whole_milliseconds(left)) {
+                Seen::Peer => return Ok(()),
                 Seen::Others => {
                     self.overrun.set(Some(Overrun::Way));
                     break;
@@ -487,27 +488,32 @@ impl<'a, R: Wait + Clock + Log, D: Departing, K: Keeping, S: Sink> Wire<'a, R, D
                 Seen::Nothing => {}
             }
         }
-        stay.end();
         Err(WireFault::of(ErrorKind::TimedOut))
     }
 
-    // Reads once, or stays after the grace and then reads.
+    // Reads once, and stays before that while others wait, or after nothing has come for a while.
     fn read_or_stay(
         &self,
         buf: &mut [u8],
         pressure: Pressure<'a>,
-        grace: Duration,
         left: Option<Duration>,
     ) -> Result<usize, WireFault>
         ensures { IfOk result (λ count. count ≤ length buf.new) }
     {
-        match self.inlet.read_within(buf, Some(grace)) {
-            Err(fault) if fault.is_late() => {
-                self.stay(pressure, left.map(|left| left.saturating_sub(grace)))?;
-                self.inlet.read_once(buf)
+        let mut waited = Duration::ZERO;
+        if !pressure.is_felt() {
+            waited = Duration::from_millis(READ_LOOK);
+            match self.inlet.read_within(buf, Some(waited)) {
+                Err(fault) if fault.is_late() => {}
+                read => return read,
             }
-            read => read,
         }
+        let (activity, elapsed) = self.activity(waited);
+        let mut stay = Stay::new(self.rt, pressure, activity, elapsed);
+        let stayed = self.stay(&mut stay, left.map(|left| left.saturating_sub(waited)));
+        stay.end(self.rt);
+        stayed?;
+        self.inlet.read_once(buf)
     }
 
     // Reads once. Acknowledges what came and isn't answered before waiting for more.
@@ -518,13 +524,45 @@ impl<'a, R: Wait + Clock + Log, D: Departing, K: Keeping, S: Sink> Wire<'a, R, D
         if self.is_unanswered.get() || self.begun.get().is_some() {
             self.inlet.acknowledge();
         }
-        if let Some(pressure) = self.pressure_now()
-            && let Some(grace) = self.grace(pressure)
-            && is_shorter(grace, left)
-        {
-            return self.read_or_stay(buf, pressure, grace, left);
+        match self.pressure {
+            Some(pressure) if is_shorter(Duration::from_millis(READ_LOOK), left) => {
+                self.read_or_stay(buf, pressure, left)
+            }
+            _ => self.inlet.read_within(buf, left),
         }
-        self.inlet.read_within(buf, left)
+    }
+
+    // Returns whether the association makes way, of whose answer the peer has taken too little since `begun`.
+    #[cold]
+    fn stops_writing(&self, pressure: Pressure<'a>, begun: Instant) -> bool {
+        let elapsed = begun.elapsed(self.rt).unwrap_or(Duration::ZERO);
+        let activity = Activity::Moving(self.gone.get());
+        let mut stay = Stay::new(self.rt, pressure, activity, elapsed);
+        let makes_way = stay.makes_way(self.rt);
+        stay.end(self.rt);
+        makes_way
+    }
+
+    // Returns what is left of the time to write, or how long a write waits before it is looked whether others wait.
+    //
+    // Errors: TimedOut if the association makes way.
+    fn left_under(
+        &self,
+        pressure: Pressure<'a>,
+        begun: Option<Instant>,
+        left: Option<Duration>,
+    ) -> Result<Option<Duration>, WireFault> {
+        if let Some(begun) = begun
+            && pressure.is_felt()
+            && self.stops_writing(pressure, begun)
+        {
+            return Err(WireFault::of(ErrorKind::TimedOut));
+        }
+        let look = Duration::from_millis(WRITE_LOOK);
+        if is_shorter(look, left) {
+            return Ok(Some(look));
+        }
+        Ok(left)
     }
 
     // Reads once, in what is left of the time.
@@ -594,12 +632,25 @@ impl<'a, R: Wait + Clock + Log, D: Departing, K: Keeping, S: Sink> Pace for Wire
         if begun.is_none() {
             let now = Instant::now(self.rt)?;
             self.answering.set(Some(now));
+            self.gone.set(0);
             self.note_time(now);
         }
-        match self.deadline {
+        let left = match self.deadline {
             Deadline::Request(limits) => left_since(self.rt, limits.message, begun),
             Deadline::Answer(patience) => self.left_of_patience(patience, begun),
+        }?;
+        match self.pressure {
+            Some(pressure) => self.left_under(pressure, begun, left),
+            None => Ok(left),
         }
+    }
+
+    fn note_written(&self, count: usize) {
+        self.gone.set(added(self.gone.get(), count));
+    }
+
+    fn tries_again(&self) -> bool {
+        self.pressure.is_some()
     }
 }
 

@@ -6,6 +6,7 @@ ghost use Rattle.ups_settings.specs.Defaults.{local_offset};
 ghost use Rattle.ups_settings.specs.Refusal.{refusal};
 ghost use Rattle.ups_life.specs.Limits.{history_limit, peer_limit};
 
+mod beside;
 mod ending;
 mod keeping;
 mod naming;
@@ -16,8 +17,9 @@ mod storing;
 use crate::ending::{checked_status, refuse, server_status};
 use crate::naming::with_peers;
 use crate::scripting::answer_script;
-use crate::storing::{Stores, perform_compact, perform_init, terms_asked};
+use crate::storing::{AskedServer, Stores, perform_compact, perform_init, server_asked};
 use clap::ArgMatches;
+use clap::error::ErrorKind as AskedKind;
 pub use ending::{ExitStatus, parse_status, script_status, session_status};
 use log::{LevelFilter, Log, Logged};
 use std::alloc::{AllocError, Global};
@@ -27,7 +29,7 @@ use std::str;
 use std::sync::Wait;
 use std::thread::Threads;
 use std::time::Clock;
-use ups_args::{PipeArguments, command, pipe_arguments, script_arguments};
+use ups_args::{PipeArguments, command, pipe_arguments, provenance, script_arguments};
 use ups_log::{LineStyle, LossyLog};
 pub use ups_net::{ServerOptions, work};
 use ups_peers::TURNS;
@@ -35,7 +37,7 @@ use ups_pipe::{Piped, pipe_told};
 pub use ups_server::{RanServer, answer_network, check_words, serve_words};
 pub use ups_session::{End, SessionFault};
 use ups_session::{WatchedReader, WatchedWriter};
-use ups_transport::Network;
+use ups_transport::{Network, StartLog};
 
 /// Answers one association from standard input to standard output, prints its fault, and returns how the program ends.
 ///
@@ -98,13 +100,14 @@ fn perform<R: Input + Print + Eprint + AllocGlobal>(
 /// Looks at what a start of `serve` would find, and returns how the program ends.
 ///
 /// Errors: lack of memory.
-fn check_network<'a, R>(
+fn check_network<'a, R, T>(
     rt: &R,
-    stores: &Stores<'a, R>,
+    stores: &Stores<'a, T>,
     matches: &ArgMatches<'a>,
 ) -> Result<ExitStatus, AllocError>
 where
-    R: Clock + Log + AllocGlobal + Eprint + Network,
+    R: Log + AllocGlobal + Eprint + Network,
+    T: Clock + Log,
 {
     match check_words(rt, stores, matches) {
         Ok(can_start) => Ok(checked_status(can_start)),
@@ -116,13 +119,14 @@ where
 /// ends.
 ///
 /// Errors: lack of memory.
-fn perform_network<'a, R>(
+fn perform_network<'a, R, T>(
     rt: &R,
-    stores: &Stores<'a, R>,
+    stores: &Stores<'a, T>,
     matches: &ArgMatches<'a>,
 ) -> Result<ExitStatus, AllocError>
 where
     R: Threads + Wait + Clock + Log + Sync + AllocGlobal + Print + Eprint + Network,
+    T: Clock + Log,
 {
     if matches.get_flag("check") {
         return check_network(rt, stores, matches);
@@ -130,6 +134,13 @@ where
     match serve_words(rt, stores, matches, u64::MAX, u64::MAX) {
         Ok(left) => server_status(left),
         Err(fault) => refuse(rt, fault),
+    }
+}
+
+/// Prints where the program comes from, behind its version.
+fn tell_provenance<R: Print>(rt: &R, asked: AskedKind) {
+    if asked == AskedKind::DisplayVersion {
+        let _ = println!(rt; "{}", provenance());
     }
 }
 
@@ -145,6 +156,7 @@ fn matches_of<'a, R: Print + Eprint + AllocGlobal>(
         Ok(matches) => Ok(Ok(matches)),
         Err(error) => {
             let _ = error.print(rt);
+            tell_provenance(rt, error.kind());
             Ok(Err(parse_status(error.kind())))
         }
     }
@@ -163,10 +175,11 @@ fn end_of<R: Eprint>(rt: &R, performed: Result<ExitStatus, AllocError>) -> ExitS
 
 /// Does what the command line asks, and returns how the program ends. A server has its own runtime, whose log does not
 /// keep its threads waiting.
-fn run<'a, R, S>(rt: &R, serving: &S, stores: &Stores<'a, S>, words: &'a [String]) -> ExitStatus
+fn run<'a, R, S, T>(rt: &R, serving: &S, stores: &Stores<'a, T>, words: &'a [String]) -> ExitStatus
 where
     R: AllocGlobal + Input + Print + Eprint,
     S: Threads + Wait + Clock + Log + Sync + AllocGlobal + Print + Eprint + Network,
+    T: Clock + Log,
 {
     let performed = match matches_of(rt, words) {
         Ok(Ok(matches)) => match matches.subcommand() {
@@ -213,14 +226,14 @@ fn text_of(alloc: Global, words: &[String]) -> Result<String, AllocError> {
     Ok(text)
 }
 
-/// Returns the terms of the service that a command line of `serve` asks for; empty if it is another, or invalid.
+/// Returns what is told of the server that a command line asks for; nothing if it is of no server, or invalid.
 ///
 /// Errors: lack of memory.
-fn terms_of(alloc: Global, words: &[String]) -> Result<String, AllocError> {
+fn asked_in(alloc: Global, words: &[String]) -> Result<AskedServer, AllocError> {
     let Ok(matches) = command(alloc)?.try_get_matches_from(words) else {
-        return Ok(String::new(alloc));
+        return Ok(AskedServer::none(alloc));
     };
-    terms_asked(alloc, &matches)
+    server_asked(alloc, &matches)
 }
 
 /// Returns whether the command line asks for something that logs: a server, or a compaction.
@@ -270,12 +283,13 @@ fn main(rt: HostRuntime) -> ExitCode {
         Ok(Err(status)) => return ExitCode::from(status),
         Err(fault) => return ExitCode::from(end_of(&rt, Err(fault))),
     };
-    let terms = match terms_of(rt.alloc(), &words) {
-        Ok(terms) => terms,
+    let asked = match asked_in(rt.alloc(), &words) {
+        Ok(asked) => asked,
         Err(fault) => return ExitCode::from(end_of(&rt, Err(fault))),
     };
     let serving = Logged::new(rt, LevelFilter::Info, log);
-    let stores = Stores::new(&rt, &serving, text.as_str(), terms.as_str());
+    let telling = StartLog::new(&serving);
+    let stores = Stores::new(&rt, &telling, text.as_str(), &asked);
     let status = run(&rt, &serving, &stores, &words);
     serving.flush();
     ExitCode::from(status)

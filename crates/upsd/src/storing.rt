@@ -6,16 +6,17 @@ ghost use Rattle.ups_life.specs.Limits.{peer_limit};
 ghost use Rattle.ups_start.specs.Opened.{ShowsFiles, Resumes};
 ghost use Rattle.upsd.specs.Storing.{compaction_settings};
 
+use crate::beside::{BesideFault, read_beside, write_beside};
 use crate::ending::{ExitStatus, refuse};
 use crate::keeping::{ServerLedger, ServerNaming};
 use crate::place::{AnyContents, ServerPlace};
 use clap::ArgMatches;
-use log::{Log, info};
+use log::{Log, info, warn};
 use std::alloc::{AllocError, Global};
 use std::time::Clock;
 use ups_args::{
     ArgumentFault, CompactArguments, InitArguments, ScriptArguments, VERSION, compact_arguments,
-    init_arguments, script_arguments,
+    init_arguments, serve_arguments,
 };
 use ups_lasting::{DraftLedger, LastingLedger};
 use ups_ledger::{Keeper, Ledger};
@@ -26,7 +27,7 @@ use ups_server::{StoreOpener, Unopened};
 use ups_settings::ManagerFault;
 use ups_start::{
     CompactFault, LedgerNaming, OpenFault, Run, Start, StartFault, StoreFault, StoreLedger,
-    StorePlace, begin, compact, create, last_terms, look,
+    StorePlace, begin, compact, create, last_terms, look, look_at_terms,
 };
 use ups_terms::{StartChoices, Terms, terms_text};
 
@@ -36,16 +37,18 @@ pub(crate) struct Stores<'a, R: Clock + Log> {
     rt: &'a HostRuntime,
     telling: &'a R,
     run: Run<'a>,
+    /// The port that the command line names.
+    port: u16,
 }
 
 impl<'a, R: Clock + Log> Stores<'a, R> {
-    /// Returns the stores of a run of the program that begins now, with these words on its command line, under these
-    /// terms of its service, and a log for the reading of stores.
+    /// Returns the stores of a run of the program that begins now, with these words on its command line, and what they ask
+    /// for, and a log for the reading of stores.
     pub(crate) fn new(
         rt: &'a HostRuntime,
         telling: &'a R,
         words: &'a str,
-        terms: &'a str,
+        asked: &'a AskedServer,
     ) -> Stores<'a, R> {
         Stores {
             rt,
@@ -54,24 +57,57 @@ impl<'a, R: Clock + Log> Stores<'a, R> {
                 moment: moment_of(telling),
                 version: VERSION,
                 settings: words,
-                terms,
+                terms: asked.terms.as_str(),
             },
+            port: asked.port,
+        }
+    }
+
+    /// Writes the port and the terms of the server that has just begun beside its store, for checks; logs if that fails.
+    fn tell_checks(&self, file: &str) {
+        if let Err(error) = write_beside(self.rt, file, self.port, self.run.terms) {
+            warn!(self.telling; target: "upsd", "store: no check can see the terms of this server: {file}-terms: {error}");
         }
     }
 }
 
-/// Returns the terms of the service that the words of `serve` ask for; empty if they are other or invalid words.
+/// What is told of a server beside its requests.
+#[derive(Drop)]
+pub(crate) struct AskedServer {
+    /// The terms of its service, as text.
+    terms: String,
+    /// The port on which it listens; 0 means any free port.
+    port: u16,
+}
+
+impl AskedServer {
+    /// Returns what is told where no server is asked for.
+    pub(crate) fn none(alloc: Global) -> AskedServer {
+        AskedServer {
+            terms: String::new(alloc),
+            port: 0,
+        }
+    }
+}
+
+/// Returns what is told of the server that the words of `serve` ask for; nothing if they are other or invalid words.
 ///
 /// Errors: lack of memory.
-pub(crate) fn terms_asked(alloc: Global, matches: &ArgMatches<'_>) -> Result<String, AllocError> {
+pub(crate) fn server_asked(
+    alloc: Global,
+    matches: &ArgMatches<'_>,
+) -> Result<AskedServer, AllocError> {
     let asked = match matches.subcommand() {
-        Some(("serve", matches)) => script_arguments(alloc, matches),
-        _ => return Ok(String::new(alloc)),
+        Some(("serve", matches)) => serve_arguments(alloc, matches),
+        _ => return Ok(AskedServer::none(alloc)),
     };
     match asked {
-        Ok(asked) => terms_text(alloc, asked.keep, asked.offset, &asked.peers),
+        Ok(asked) => Ok(AskedServer {
+            terms: terms_text(alloc, asked.keep, asked.offset, &asked.peers)?,
+            port: asked.port,
+        }),
         Err(ArgumentFault::Memory) => Err(AllocError),
-        Err(_) => Ok(String::new(alloc)),
+        Err(_) => Ok(AskedServer::none(alloc)),
     }
 }
 
@@ -91,12 +127,22 @@ fn is_memory(fault: &StartFault) -> bool {
     }
 }
 
+/// Returns how a start that ended so can go on all the same, or nothing.
+fn way_on(fault: &StartFault) -> &str {
+    match fault {
+        StartFault::Terms(_) | StartFault::UnreadableTerms => {
+            " (--store-other-settings takes the new ones)"
+        }
+        _ => "",
+    }
+}
+
 /// Prints why a store is not used, unless memory ran out.
 fn tell_unopened<R: Eprint>(rt: &R, file: &str, fault: &StartFault) -> Unopened {
     if is_memory(fault) {
         return Unopened::Memory;
     }
-    let _ = eprintln!(rt; "upsd: the store {file}: {fault}");
+    let _ = eprintln!(rt; "upsd: the store {file}: {fault}{}", way_on(fault));
     Unopened::Told
 }
 
@@ -152,8 +198,44 @@ fn open_at<
     }
 }
 
-/// Looks at the store at a place as a start does first, and logs that it can be used, or that another process uses it; or
-/// prints why a start would not use it.
+/// Compares with the terms that the server which has a store told beside it, as a start does with those of the last run.
+/// Returns the port of that server; or prints why a start would not use the store, or that its terms can't be read.
+///
+/// Errors: Memory; Told.
+fn look_beside<R: Clock + Log>(
+    stores: &Stores<'_, R>,
+    file: &str,
+    choices: StartChoices,
+    manager: &Manager<Global>,
+) -> Result<Option<u16>, Unopened> {
+    let (rt, telling) = (stores.rt, stores.telling);
+    let beside = match read_beside(rt, file) {
+        Ok(beside) => beside,
+        Err(BesideFault::Memory) => return Err(Unopened::Memory),
+        Err(fault) => {
+            let _ = eprintln!(rt;
+                "upsd: the store {file}: another process uses it, and its terms can't be read from {file}-terms: {fault}"
+            );
+            return Err(Unopened::Told);
+        }
+    };
+    match look_at_terms(
+        rt.alloc(),
+        telling,
+        beside.terms.as_bytes(),
+        manager,
+        choices.may_change_terms,
+    ) {
+        Ok(()) => {
+            info!(telling; target: "upsd", "store: it is in use, and can be used after that");
+            Ok(Some(beside.port))
+        }
+        Err(fault) => Err(tell_unopened(rt, file, &fault)),
+    }
+}
+
+/// Looks at the store at a place as a start does first, and logs that it can be used; or prints why a start would not use
+/// it. Of a store that another process uses, the port of that server is returned.
 ///
 /// Errors: Memory; Told.
 fn look_at<P: StorePlace, R: Clock + Log>(
@@ -162,7 +244,7 @@ fn look_at<P: StorePlace, R: Clock + Log>(
     file: &str,
     choices: StartChoices,
     manager: &Manager<Global>,
-) -> Result<(), Unopened> {
+) -> Result<Option<u16>, Unopened> {
     let (rt, telling) = (stores.rt, stores.telling);
     match look(
         rt.alloc(),
@@ -173,12 +255,9 @@ fn look_at<P: StorePlace, R: Clock + Log>(
     ) {
         Ok(()) => {
             info!(telling; target: "upsd", "store: it can be used");
-            Ok(())
+            Ok(None)
         }
-        Err(StartFault::Open(OpenFault::Busy)) => {
-            info!(telling; target: "upsd", "store: it is in use by another process, and was not read");
-            Ok(())
-        }
+        Err(StartFault::Open(OpenFault::Busy)) => look_beside(stores, file, choices, manager),
         Err(fault) => Err(tell_unopened(rt, file, &fault)),
     }
 }
@@ -194,6 +273,7 @@ impl<'a, R: Clock + Log> StoreOpener<'a, ServerLedger<'a>> for Stores<'a, R> {
     ) -> Result<(ServerLedger<'a>, usize), Unopened> {
         let place = ServerPlace::new(self.rt, file);
         let keeper = open_at(self, &ServerNaming, place, file, choices, manager)?;
+        self.tell_checks(file);
         let Keeper { ledger, committed } = keeper;
         Ok((ServerLedger { ledger }, committed))
     }
@@ -203,7 +283,7 @@ impl<'a, R: Clock + Log> StoreOpener<'a, ServerLedger<'a>> for Stores<'a, R> {
         file: &'a str,
         choices: StartChoices,
         manager: &Manager<Global>,
-    ) -> Result<(), Unopened> {
+    ) -> Result<Option<u16>, Unopened> {
         let place = ServerPlace::new(self.rt, file);
         look_at(self, &place, file, choices, manager)
     }

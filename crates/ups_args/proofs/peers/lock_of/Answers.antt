@@ -1,18 +1,19 @@
-use Rattle.std.proofs.Common.{true}
-use Rattle.std.specs.Str.Pattern.{FindsTextSuffix, StripsSuffix}
-use Rattle.ups_args.specs.Arguments.{ending_of}
-use Rattle.ups_args.proofs.Parts.{ends_so, locked, unlocked, unmarked}
+use Rattle.std.proofs.Common.{◌≡◌, false, true, sym, ◌∙◌}
+use Rattle.std.specs.Str.{bytes_eq}
+use Rattle.std.proofs.lemmas.Slice.Eq.{bytes_eq-Decides}
+use Rattle.ups_args.specs.Arguments.{nowhere}
+use Rattle.ups_args.proofs.Parts.{placed_nowhere, unplaced}
 use Rattle.ups_args.proofs.peers.lock_of.Goals as goal
+
+pub returns-then-eq : goal.returns-then-eq
+returns-then-eq c =
+    let place = c.lock_cut-lock.result.0.now in
+    let same : bytes_eq place nowhere ≡ true = sym c.eq.ensures ∙ c.if-eq.true in
+    placed_nowhere c.args.text.now place c.lock_cut-lock.result.1 c.lock_cut-lock.ensures ((bytes_eq-Decides place nowhere).0 same)
 
 pub returns-in_err-address : goal.returns-in_err-address
 returns-in_err-address c =
-    let s : StripsSuffix (FindsTextSuffix (ending_of true)) c.args.text.now c.in-Some.front.now = rw c.in-Some.is at c.strip_suffix.ensures.cases in
-    rw c.from_residual.ensures (unlocked c.args.text.now c.in-Some.front.now (ends_so c.args.text.now c.in-Some.front.now s) c.in_err-address.ensures)
-
-pub returns-in-Some : goal.returns-in-Some
-returns-in-Some c =
-    let s : StripsSuffix (FindsTextSuffix (ending_of true)) c.args.text.now c.in-Some.front.now = rw c.in-Some.is at c.strip_suffix.ensures.cases in
-    locked c.args.text.now c.in-Some.front.now _ _ (ends_so c.args.text.now c.in-Some.front.now s) c.in_ok-address.ensures
-
-pub returns : goal.returns
-returns c = unmarked c.args.text.now _ _ c.in_ok-address-2.ensures
+    let place = c.lock_cut-lock.result.0.now in
+    let other : bytes_eq place nowhere ≡ false = sym c.eq.ensures ∙ c.if-eq.false in
+    let some : place ≡ nowhere → ⊥ = λ is. let same : bytes_eq place nowhere ≡ true = (bytes_eq-Decides place nowhere).1 is in absurd cc in
+    rw c.from_residual.ensures (unplaced c.args.text.now place c.lock_cut-lock.result.1 c.lock_cut-lock.ensures some c.in_err-address.ensures)

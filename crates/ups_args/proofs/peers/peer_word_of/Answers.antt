@@ -17,4 +17,4 @@ returns-in_err-address c =
 pub returns : goal.returns
 returns c =
     let first = first_of c.args.word.now c.split_once.result c.in_ok-title.title c.in_ok-title.rest c.split_once.ensures.cases c.in_ok-title.was in
-    names c.args.word.now _ _ _ _ _ _ first (rw c.as_bytes.ensures.value at c.in_ok-ae.ensures) c.in_ok-address.ensures
+    names c.args.word.now _ _ _ _ _ first (rw c.as_bytes.ensures.value at c.in_ok-ae.ensures) c.in_ok-address.ensures

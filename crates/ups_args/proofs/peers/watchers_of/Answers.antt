@@ -1,5 +1,5 @@
-use Rattle.std.proofs.Common.{rules, ◌∙◌}
-use Rattle.ups_args.specs.Arguments.{NamesPeer, NamesWatcher}
+use Rattle.std.proofs.Common.{rules, subst, sym}
+use Rattle.ups_args.specs.Arguments.{NamesPeer, NamesWatcher, SaysWhere}
 use Rattle.ups_args.proofs.Parts.{named_at, one_further}
 use Rattle.ups_args.proofs.peers.watchers_of.Goals as goal
 
@@ -7,7 +7,7 @@ pub loop-word-preserved : goal.loop-word-preserved
 loop-word-preserved c =
     let is = c.in-Some.ensures in
     one_further NamesWatcher c.args.words.now c.loop-word.word-index _ c.loop-word.watchers.items _ _ (search rules) c.loop-word.invariant
-    (c.in-Some.place.peer.lock, record { names = is.names; is_host = c.in_ok-to_string.ensures.ok ∙ is.is_host; is_port = is.is_port }) c.in_ok-push.ensures.items
+    (c.in-Some.place.peer.lock, record { names = is.names; is_there = subst (SaysWhere is.names.says.address) (sym c.in_ok-kept_address.ensures) is.is_there }) c.in_ok-push.ensures.items
 
 pub returns-in_default-clause-fault : goal.returns-in_default-clause-fault
 returns-in_default-clause-fault c = λ peers named.

@@ -19,6 +19,7 @@ returns-clause-ran g c =
       idle = e.idle;
       timeout = e.timeout;
       delivery_timeout = e.delivery_timeout;
+      waiting = e.waiting;
       compact_at = e.compact_at;
       check = e.check;
       verbose = e.verbose;

@@ -81,17 +81,17 @@ fn set_size<A: Allocator + Copy>(request: &Request<A>) -> u64 {
 /// its own heap. It copies such a block when it grows, unlike one that the system has mapped: the largest tables would
 /// be copied in the midst of a creation.
 #[derive(Drop)]
-pub(crate) struct Reserve<A: Allocator + Copy> {
+pub(crate) struct LeftMemory<A: Allocator + Copy> {
     alloc: A,
     block: Vec<u8, A>,
     /// The number of entries up to which the last look ahead serves.
     until: usize,
 }
 
-impl<A: Allocator + Copy> Reserve<A> {
+impl<A: Allocator + Copy> LeftMemory<A> {
     /// Returns a reserve that has allocated nothing yet.
-    pub(crate) fn new(alloc: A) -> Reserve<A> {
-        Reserve {
+    pub(crate) fn new(alloc: A) -> LeftMemory<A> {
+        LeftMemory {
             alloc,
             block: Vec::new(alloc),
             until: 0,
