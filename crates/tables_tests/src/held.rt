@@ -1,26 +1,28 @@
 use crate::steps::{digit_of, step_of};
 use fixtures::Refusing;
 use fixtures::rows::{check, check_same, cut, number};
-use std::alloc::{Allocator, Global};
+use std::alloc::{AllocError, Allocator, Global};
 use std::fmt::Write;
 use std::test::Fail;
 use ups_cycle::StepState;
 use ups_dataset::DataSet;
 use ups_keep::Final;
 use ups_life::{Row, StepUid};
+use ups_rows::SharedRow;
 use ups_steps::{HeldRow, Steps};
 
 /// Returns what is held of a step that became final at a moment.
-fn held_since<A: Allocator + Copy>(alloc: A, moment: u64) -> HeldRow<A> {
-    HeldRow {
-        row: Row {
-            attributes: DataSet::new(alloc),
-            state: StepState::Completed,
-            transaction: None,
-            final_at: Some(moment),
-        },
+fn held_since<A: Allocator + Copy>(alloc: A, moment: u64) -> Result<HeldRow<A>, AllocError> {
+    let row = Row {
+        attributes: DataSet::new(alloc),
+        state: StepState::Completed,
+        transaction: None,
+        final_at: Some(moment),
+    };
+    Ok(HeldRow {
+        row: SharedRow::new(alloc, row)?,
         holder: None,
-    }
+    })
 }
 
 /// Makes room for a step that is not held, and adds it.
@@ -34,7 +36,7 @@ fn push<A: Allocator + Copy>(
         return Err("held already".into());
     }
     steps.reserve(1)?;
-    steps.push(step, held_since(alloc, moment));
+    steps.push(step, held_since(alloc, moment)?);
     Ok(())
 }
 
@@ -48,7 +50,7 @@ fn put<A: Allocator + Copy>(
     if steps.get(step).is_none() {
         return Err("not held".into());
     }
-    steps.put(step, held_since(alloc, moment));
+    steps.put(step, held_since(alloc, moment)?);
     Ok(())
 }
 
@@ -92,7 +94,7 @@ fn add_step(text: &mut String, step: StepUid, since: Option<u64>) -> Result<(), 
 fn steps_held<A: Allocator + Copy>(alloc: Global, steps: &Steps<A>) -> Result<String, Fail> {
     let mut text = String::new(alloc);
     for (step, held) in steps.iter() {
-        add_step(&mut text, *step, held.row.final_at)?;
+        add_step(&mut text, *step, held.row.get().final_at)?;
     }
     Ok(text)
 }

@@ -22,7 +22,11 @@ use Rattle.ups_life.specs.Worklist.{rows, worklist}
 use Rattle.ups_tables.specs.declared.rows.HeldStep.{HeldStep}
 use Rattle.ups_tables.specs.HeldSteps.{held_step, held_steps, attributes_in, step_at, row_in}
 use Rattle.ups_service.specs.Asked.{asked_rows}
-use Rattle.ups_manager.specs.Finding.{answers_among, attributes_of, attributes_at}
+use Rattle.ups_rows.specs.Answering.{answers_among}
+use Rattle.ups_steps.specs.declared.held.HeldRow.{HeldRow}
+use Rattle.ups_steps.specs.Held.{attributes_held}
+use Rattle.ups_tables.specs.Keyed.{as_steps}
+use Rattle.ups_manager.specs.Finding.{attributes_of, attributes_at}
 use Rattle.ups_manager.specs.Indexing.{uids_in, indexed, IsIndexed}
 use Rattle.ups_manager.proofs.Matches.{filter_alike}
 
@@ -91,6 +95,11 @@ pub as_many_rows : {A : Type 0} (hs : List (HeldStep A)) → length (attributes_
 as_many_rows [] = refl
 as_many_rows (h ∷ hs) = ap suc (as_many_rows hs)
 
+-- the rows that the table shares
+pub held_attributes : {A : Type 0} (es : List (List ℕ × HeldRow A)) → attributes_held es ≡ attributes_in (as_steps es)
+held_attributes [] = refl
+held_attributes (e ∷ es) = ap (λ (l : List (List El)). e.1.row.attributes ∷ l) (held_attributes es)
+
 -- by the history
 pub class_by_history : {A : Type 0} (s : Settings) (es : List (Entry A)) (offset : ℤ) (keys : KeySet) (hs : List (HeldStep A)) → hs ≡ held_steps s es → offset ≡ s.offset → class offset keys (attributes_in hs) ≡ asked_rows s es keys
 class_by_history s es offset keys hs kept zone = ap (λ (o : ℤ). class o keys (attributes_in hs)) zone ∙ ap (class s.offset keys) (ap attributes_in kept ∙ rows_of s es (held s es))
@@ -106,9 +115,6 @@ answered_worklist says s es keys same =
 
 -- ONE MORE CANDIDATE
 
-answered-append : (says : List El → Bool) (keys : List El) (rs qs : List (List El)) → answers_among says keys (rs ++ qs) ≡ answers_among says keys rs ++ answers_among says keys qs
-answered-append says keys rs qs = ap (map (λ r. answer r keys)) (filter-append says rs qs) ∙ map-append (λ r. answer r keys) (filter says rs) (filter says qs)
-
 rows_more : {A : Type 0} (hs : List (HeldStep A)) (us : List (List ℕ)) (i : ℕ) (u : List ℕ) → i < length us → u ≡ get_or us i u
     → filter_map (attributes_at hs) (take (i + 1) us) ≡ filter_map (attributes_at hs) (take i us) ++ option_to_list (attributes_at hs u)
 rows_more hs us i u low is =
@@ -121,41 +127,7 @@ rows_more hs us i u low is =
     one (Some x) = refl
 
 -- its row is looked up
-asked_more : {A : Type 0} (hs : List (HeldStep A)) (us : List (List ℕ)) (i : ℕ) (u : List ℕ) (o : Option (Row A)) → i < length us → u ≡ get_or us i u → o ≡ row_in u hs
+pub asked_more : {A : Type 0} (hs : List (HeldStep A)) (us : List (List ℕ)) (i : ℕ) (u : List ℕ) (o : Option (Row A)) → i < length us → u ≡ get_or us i u → o ≡ row_in u hs
     → filter_map (attributes_at hs) (take (i + 1) us) ≡ filter_map (attributes_at hs) (take i us) ++ option_to_list (attributes_of o)
 asked_more {A} hs us i u o low is found =
     rows_more hs us i u low is ∙ ap (λ (p : Option (Row A)). filter_map (attributes_at hs) (take i us) ++ option_to_list (attributes_of p)) (sym found)
-
--- and answered, where it matches
-pub found_more : {A : Type 0} (says : List El → Bool) (keys : List El) (hs : List (HeldStep A)) (us : List (List ℕ)) (i : ℕ) (u : List ℕ) (o : Option (Row A)) (before after : List (List El)) → i < length us → u ≡ get_or us i u → o ≡ row_in u hs
-    → before ≡ answers_among says keys (filter_map (attributes_at hs) (take i us)) → after ≡ before ++ answers_among says keys (option_to_list (attributes_of o)) → after ≡ answers_among says keys (filter_map (attributes_at hs) (take (i + 1) us))
-found_more says keys hs us i u o before after low is found was more =
-    more ∙ ap (λ (l : List (List El)). l ++ answers_among says keys (option_to_list (attributes_of o))) was
-    ∙ sym (ap (answers_among says keys) (asked_more hs us i u o low is found) ∙ answered-append says keys (filter_map (attributes_at hs) (take i us)) (option_to_list (attributes_of o)))
-
--- HOW OFTEN A MATCHER IS ASKED
-
-fewer : {X Y : Type 0} (f : X → Option Y) (xs : List X) → length (filter_map f xs) ≤ length xs
-fewer f [] = omega arith
-fewer f (x ∷ xs) = let rest = fewer f xs in here (f x) rest
-  where
-    here : (o : Option _) → length (filter_map f xs) ≤ length xs → length (cons_option o (filter_map f xs)) ≤ length (x ∷ xs)
-    here None rest = omega (arith, rest)
-    here (Some y) rest = omega (arith, rest)
-
--- of so many candidates no more are held
-pub asked_few : {A : Type 0} (hs : List (HeldStep A)) (us : List (List ℕ)) (i : ℕ) → length (filter_map (attributes_at hs) (take i us)) ≤ i
-asked_few hs us i = let less = fewer (attributes_at hs) (take i us) in let short = length-take i us in omega (arith, less, short)
-
--- one more is asked of where it is held
-pub asked_count : {A : Type 0} (hs : List (HeldStep A)) (us : List (List ℕ)) (i : ℕ) (u : List ℕ) (o : Option (Row A)) → i < length us → u ≡ get_or us i u → o ≡ row_in u hs
-    → length (filter_map (attributes_at hs) (take (i + 1) us)) ≡ length (filter_map (attributes_at hs) (take i us)) + length (option_to_list (attributes_of o))
-asked_count hs us i u o low is found = ap length (asked_more hs us i u o low is found) ∙ length-append (filter_map (attributes_at hs) (take i us)) (option_to_list (attributes_of o))
-
--- of some of the candidates no more are asked than of all
-pub asked_within : {A : Type 0} (hs : List (HeldStep A)) (us : List (List ℕ)) (i : ℕ) → length (filter_map (attributes_at hs) (take i us)) ≤ length (filter_map (attributes_at hs) us)
-asked_within hs us i =
-    let f = attributes_at hs in
-    let both : length (filter_map f us) ≡ length (filter_map f (take i us)) + length (filter_map f (drop i us)) =
-    ap (λ (l : List (List ℕ)). length (filter_map f l)) (sym (take-append-drop i us)) ∙ ap length (filter_map-append f (take i us) (drop i us)) ∙ length-append (filter_map f (take i us)) (filter_map f (drop i us)) in
-    omega (arith, both)

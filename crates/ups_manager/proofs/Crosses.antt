@@ -1,7 +1,7 @@
 -- A manager may go to another thread, where its allocator may: one fact for each type from the ones inside it, since a search
 -- through all of them at once does not end.
 use denote.RattleType.{RattleType}
-use denote.Param.Send.{IsSend, Frees, sendable}
+use denote.Param.Send.{IsSend, IsSync, Frees, sendable}
 use Rattle.std.specs.declared.alloc.Allocator as Allocator
 use Rattle.std.specs.declared.cmp.PartialEq as eq
 use Rattle.std.specs.declared.hash.Hash as hash
@@ -9,7 +9,7 @@ use Rattle.std.specs.declared.hash.Hasher as hasher
 use Rattle.std.specs.declared.hash.BuildHasher as builder
 use Rattle.std_heap.specs.contracts.Global as Heap
 use Rattle.std_heap.specs.contracts.GlobalAllocator.TheImpl.{ghosts}
-use Rattle.std.proofs.Crossing.{frees, send, crosses}
+use Rattle.std.proofs.Crossing.{frees, send, sync, crosses}
 use Rattle.std.proofs.CrossingOver as over
 use Rattle.std.proofs.MapsCrossingOver as maps
 use Rattle.std.proofs.hash.FoldHasher.TheSendSync as fold
@@ -46,9 +46,9 @@ use Rattle.ups_life.specs.contracts.watching.Filter as Filter
 use Rattle.ups_life.specs.contracts.watching.Target as Target
 use Rattle.ups_life.specs.contracts.request.Request as Request
 use Rattle.ups_life.specs.contracts.entry.Entry as Entry
-use Rattle.ups_life.specs.contracts.row.Row as Row
 use Rattle.ups_life.specs.contracts.configuration.Configuration as Configuration
 use Rattle.ups_history.specs.contracts.history.History as History
+use Rattle.ups_rows.proofs.Crosses.{SharedRow-send}
 use Rattle.ups_watch.specs.contracts.cover.Cover as Cover
 use Rattle.ups_watch.specs.contracts.row.WatchRow as Cells
 use Rattle.ups_watch.specs.contracts.watchers.Watchers as Watchers
@@ -124,17 +124,14 @@ module _ (A : RattleType) (g : Allocator.Ghosts A.Denot) where
   Configuration-send : IsSend A → Frees g g.dealloc_token → IsSend (Configuration.the_field A g).row
   Configuration-send s f = search (sendable, over.crosses, leaves) depth 40
 
-  Row-send : IsSend A → Frees g g.dealloc_token → IsSend (Row.the_field A g).row
-  Row-send s f = let d = DataSet-send s f in search (sendable, leaves) depth 40
-
-  HeldRow-send : IsSend A → Frees g g.dealloc_token → IsSend (HeldRow.the_field A g).row
-  HeldRow-send s f = let r = Row-send s f in search (sendable, leaves) depth 40
+  HeldRow-send : IsSend A → IsSync A → Frees g g.dealloc_token → IsSend (HeldRow.the_field A g).row
+  HeldRow-send s y f = let r = SharedRow-send A g s y f in search (sendable, leaves) depth 40
 
 -- THE TABLES
 
 module _ (A : RattleType) (g : Allocator.Ghosts A.Denot) where
-  Steps-send : IsSend A → Frees g g.dealloc_token → IsSend (Steps.the_field A g).row
-  Steps-send s f = let h = HeldRow-send A g s f in let o : IsSend (Option.the_row (HeldRow.the_row A g)) = search sendable depth 20 in search (sendable, IndexMap-send, leaves) depth 40
+  Steps-send : IsSend A → IsSync A → Frees g g.dealloc_token → IsSend (Steps.the_field A g).row
+  Steps-send s y f = let h = HeldRow-send A g s y f in let o : IsSend (Option.the_row (HeldRow.the_row A g)) = search sendable depth 20 in search (sendable, IndexMap-send, leaves) depth 40
 
   Cover-send : IsSend A → Frees g g.dealloc_token → IsSend (Cover.the_field A g).row
   Cover-send s f = let k = Keys-send A g s f in search (sendable, leaves) depth 40
@@ -154,9 +151,9 @@ module _ (A : RattleType) (g : Allocator.Ghosts A.Denot) where
   Due-send : IsSend A → Frees g g.dealloc_token → IsSend (Due.the_field A g).row
   Due-send s f = search (sendable, over.crosses, leaves) depth 40
 
-  Tables-send : IsSend A → Frees g g.dealloc_token → IsSend (Tables.the_field A g).row
-  Tables-send s f =
-      let h = Steps-send s f in let w = Watchers-send s f in let q = Queues-send s f in let d = Due-send s f in
+  Tables-send : IsSend A → IsSync A → Frees g g.dealloc_token → IsSend (Tables.the_field A g).row
+  Tables-send s y f =
+      let h = Steps-send s y f in let w = Watchers-send s f in let q = Queues-send s f in let d = Due-send s f in
       search (sendable, maps.crosses, leaves) depth 40
 
 -- THE INDEX
@@ -186,9 +183,9 @@ module _ (A : RattleType) (g : Allocator.Ghosts A.Denot) where
   LeftMemory-send : IsSend A → Frees g g.dealloc_token → IsSend (LeftMemory.the_field A g).row
   LeftMemory-send s f = search (sendable, over.crosses) depth 20
 
-  pub Manager-send : IsSend A → Frees g g.dealloc_token → IsSend (Manager.the_row A g)
-  Manager-send s f = let e = History-send A g s f in let t = Tables-send A g s f in let o = Configuration-send A g s f in let i = Index-send A g s f in let r = LeftMemory-send s f in search sendable depth 20
+  pub Manager-send : IsSend A → IsSync A → Frees g g.dealloc_token → IsSend (Manager.the_row A g)
+  Manager-send s y f = let e = History-send A g s f in let t = Tables-send A g s y f in let o = Configuration-send A g s f in let i = Index-send A g s f in let r = LeftMemory-send s f in search sendable depth 20
 
 -- at the heap, in one step
 pub manager_send : IsSend (Manager.the_row Heap.the_row ghosts)
-manager_send = Manager-send Heap.the_row ghosts send frees
+manager_send = Manager-send Heap.the_row ghosts send sync frees

@@ -140,7 +140,7 @@ fn decide_step<A: Allocator + Copy>(
         Ok(held) => held,
         Err(fault) => return Err(Reply::Status(fault.status())),
     };
-    let Ok(values) = Values::of(alloc, &held.row.attributes, offset) else {
+    let Ok(values) = Values::of(alloc, &held.row.get().attributes, offset) else {
         return Err(Reply::Status(Status::ResourceLimitation));
     };
     match plan_step(alloc, configuration, history, tables, call, step, held) {

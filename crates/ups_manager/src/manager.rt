@@ -1,6 +1,6 @@
 //! The state of the service: the history of accepted requests, and the steps.
 
-ghost use Rattle.std.specs.Prelude.{[], ◌≡◌, ◌≤◌, ◌<◌, ◌^◌, ◌+◌, ◌++◌, List, None, Some, is_some, true, length, drop, All, IfOk, IfErr, OnOk};
+ghost use Rattle.std.specs.Prelude.{[], ◌≡◌, ◌≤◌, ◌<◌, ◌^◌, ◌+◌, ◌++◌, List, None, Some, is_some, true, length, drop, All, IfOk, IfErr, OnOk, OnErr};
 ghost use Rattle.std.specs.List.{AllByRecursion};
 ghost use Rattle.std.specs.Option.{IfSome, unwrap_or};
 ghost use Rattle.ups_dataset.specs.Data.{El};
@@ -17,12 +17,13 @@ ghost use Rattle.ups_life.specs.Events.{acked, events, pending, view, present};
 ghost use Rattle.ups_life.specs.History.{got};
 ghost use Rattle.ups_life.specs.Worklist.{worklist};
 ghost use Rattle.ups_settings.specs.declared.fault.ManagerFault.TheVariants.{Memory};
-ghost use Rattle.ups_manager.specs.Finding.{answers_among};
+ghost use Rattle.ups_rows.specs.Answering.{answers_among};
 ghost use Rattle.ups_manager.specs.Held.{holder_of};
 ghost use Rattle.ups_manager.specs.Room.{most_for};
 ghost use Rattle.ups_tables.specs.Seen.{Once};
 ghost use Rattle.ups_service.specs.Asked.{asked_rows, IsAsked, NotesAsked};
-ghost use Rattle.ups_service.specs.Law.{OrLacking, Answers, SmallReply, entered, is_legal};
+ghost use Rattle.ups_service.specs.Law.{OrLacking, Answers, SmallReply, entered, is_granted, is_legal};
+ghost use Rattle.ups_service.specs.Looking.{is_look, rows_for, reply_from};
 ghost use Rattle.ups_settings.specs.Refusal.{refusal};
 ghost use Rattle.ups_service.specs.Reporting.{reports_to};
 
@@ -33,7 +34,7 @@ use crate::peers::{acked_at, all_pending, first_pending, made_at, waiting_at, wa
 use crate::reporting::reports_of;
 use crate::rows::{find, uids_of};
 use crate::submitting::{MOST_IN_MEMORY, most_in_memory};
-use crate::worklist::matches_of_class;
+use crate::worklist::{row_of_step, rows_of_class};
 use std::alloc::{AllocError, Allocator};
 use std::marker::Model;
 use ups_cycle::Status;
@@ -41,10 +42,12 @@ use ups_dataset::Tag;
 use ups_history::History;
 use ups_index::Index;
 use ups_life::{
-    Ask, Configuration, Entry, Event, Holder, MAX_HISTORY, Peer, Reply, StepUid, Watched, shown,
+    Ask, Configuration, Entry, Event, Holder, MAX_HISTORY, Peer, Reply, StepUid, Watched,
 };
 use ups_match::{Keys, Matcher, Probe};
 use ups_pdu::Ae;
+use ups_rows::SharedRows;
+use ups_service::{found_among, shown_first};
 use ups_settings::{ManagerFault, refusal};
 use ups_tables::{Tables, begin, place_of};
 
@@ -310,15 +313,8 @@ impl<A: Allocator + Copy> Manager<A> {
         ensures small { SmallReply result }
         ensures legal { is_legal self.now.settings self.now.history }
     {
-        let tables = &self.tables;
-        let Some(step) = step else {
-            return Reply::Status(Status::UnknownInstance);
-        };
-        let Some(held) = find(tables, step) else {
-            return Reply::Status(Status::UnknownInstance);
-        };
-        match shown(&held.row.attributes, attributes) {
-            Ok(reply) => reply,
+        match row_of_step(self.alloc, &self.tables, step) {
+            Ok(rows) => shown_first(&rows, attributes),
             Err(_) => Reply::Status(Status::ResourceLimitation),
         }
     }
@@ -335,9 +331,29 @@ impl<A: Allocator + Copy> Manager<A> {
         ensures asked { IsAsked (M.asked matcher.old) (length (asked_rows self.now.settings (past self.now.history) keys.now)) (M.asked matcher.new) result }
         ensures legal { is_legal self.now.settings self.now.history }
     {
-        match matches_of_class(self.alloc, &self.tables, &self.index, keys, matcher) {
-            Ok(sets) => Reply::Sets(sets),
+        match rows_of_class(self.alloc, &self.tables, &self.index, keys) {
+            Ok(rows) => found_among(&rows, keys, matcher),
             Err(_) => Reply::Status(Status::OutOfResources),
+        }
+    }
+
+    /// Returns the rows on which the reply to an N-GET or a query rests. [`complete`](ups_service::complete) makes the reply
+    /// from them without the manager. The rows are shared, not copied.
+    ///
+    /// # Errors
+    ///
+    /// If memory runs out, as it can't for a step that is not held.
+    pub fn look(&self, ask: &Ask<A>) -> Result<SharedRows<A>, AllocError>
+        requires look { is_look ask.now ≡ true }
+        ensures rows { IfOk result (λ rows. rows ≡ rows_for self.now.settings self.now.history ask.now) }
+        ensures lacks { OnErr result (is_granted (reply_from (rows_for self.now.settings self.now.history ask.now) ask.now) ≡ true) }
+        ensures small { SmallReply (reply_from (rows_for self.now.settings self.now.history ask.now) ask.now) }
+        ensures legal { is_legal self.now.settings self.now.history }
+    {
+        match ask {
+            Ask::Get { step, .. } => row_of_step(self.alloc, &self.tables, *step),
+            Ask::Find(keys) => rows_of_class(self.alloc, &self.tables, &self.index, keys),
+            Ask::Do(_) | Ask::Pending { .. } => unreachable!(),
         }
     }
 

@@ -24,7 +24,7 @@ pub(crate) fn row_of<A: Allocator + Copy>(held: Option<&HeldRow<A>>) -> Option<&
     ensures { option_copied result ≡ row_held (option_copied held.entry) }
 {
     match held {
-        Some(held) => Some(&held.row),
+        Some(held) => Some(held.row.get()),
         None => None,
     }
 }

@@ -8,10 +8,11 @@ ghost use Rattle.ups_service.specs.Asked.{NotesAsked};
 ghost use Rattle.ups_service.specs.Law.{Answers, Others, nobody, alone, entered, is_legal, Serves, SmallReply};
 
 use crate::manager::Manager;
-use std::alloc::Allocator;
+use std::alloc::{AllocError, Allocator};
 use ups_history::History;
 use ups_life::{Ask, Reply};
 use ups_pdu::Ae;
+use ups_rows::SharedRows;
 use ups_service::{Service, SharedService};
 
 impl<A: Allocator + Copy> Service<A> for Manager<A> {
@@ -60,6 +61,10 @@ impl<A: Allocator + Copy> SharedService<A> for Manager<A> {
 
     fn let_go(&mut self, upto: usize) -> bool {
         Manager::let_go(self, upto)
+    }
+
+    fn look(&mut self, ask: &Ask<A>) -> Result<SharedRows<A>, AllocError> {
+        Manager::look(self, ask)
     }
 
     fn answer_as(&mut self, caller: u32, ae: Ae, moment: u64, ask: &mut Option<Ask<A>>) -> Reply<A>

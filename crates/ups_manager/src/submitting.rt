@@ -25,6 +25,7 @@ use ups_life::{
     ChangeFault, Configuration, Entry, Holder, MAX_HISTORY, MAX_ROW_BYTES, Request, Row, StepUid,
     Transaction,
 };
+use ups_rows::SharedRow;
 use ups_rules::{change, verdict};
 use ups_tables::{HeldRow, Tables};
 
@@ -205,5 +206,8 @@ pub(crate) fn step_for<A: Allocator + Copy>(
     check_allowed(row, history, &call.request, tables)?;
     let row = row_for(alloc, row, &call.request, call.moment, offset)?;
     let holder = holder_after(held, call);
-    Ok(HeldRow { row, holder })
+    match SharedRow::new(alloc, row) {
+        Ok(row) => Ok(HeldRow { row, holder }),
+        Err(_) => Err(SubmitFault::Memory),
+    }
 }

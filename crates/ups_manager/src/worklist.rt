@@ -1,126 +1,94 @@
-//! Answers a query from the held steps of its class, and from no others.
+//! The rows that a query or an N-GET is answered from: those of its class, or of its step, and no others.
 
-ghost use Rattle.std.specs.Prelude.{◌≡◌, ◌<◌, ◌≤◌, ◌-◌, ◌+◌, ◌^◌, ◌++◌, [], ◌∷◌, length, map, IfOk, OnOk, if◌then◌else◌};
+ghost use Rattle.std.specs.Prelude.{◌≡◌, ◌++◌, map, IfOk, OnOk, OnErr, is_some, true};
 ghost use Rattle.std.specs.List.{filter_map};
 ghost use Rattle.std.specs.Option.{option_copied, option_to_list};
-ghost use Rattle.ups_dataset.specs.Data.{answer};
-ghost use Rattle.ups_tables.specs.Keyed.{as_steps};
+ghost use Rattle.ups_tables.specs.Held.{held_at};
 ghost use Rattle.ups_tables.specs.HeldSteps.{attributes_in};
+ghost use Rattle.ups_tables.specs.Keyed.{as_steps, row_held};
 ghost use Rattle.ups_life.specs.Distinct.{Distinct};
 ghost use Rattle.ups_match.specs.Class.{class};
-ghost use Rattle.ups_manager.specs.Finding.{answers_among, attributes_of, attributes_at};
+ghost use Rattle.ups_manager.specs.Finding.{attributes_of, attributes_at};
 ghost use Rattle.ups_manager.specs.Indexing.{indexed, uids_in};
 
-use crate::rows::known;
+use crate::rows::find;
 use std::alloc::{AllocError, Allocator};
-use ups_dataset::DataSet;
 use ups_index::Index;
-use ups_life::{Row, Sets, StepUid};
-use ups_match::{Keys, Matcher};
-use ups_tables::Tables;
+use ups_life::StepUid;
+use ups_match::Keys;
+use ups_rows::SharedRows;
+use ups_tables::{HeldRow, Tables};
 
-/// Adds the answer of a row to keys if the row matches them.
+/// Adds the row of a step if the step is held.
 ///
 /// Errors: if memory runs out.
-fn add_match<A: Allocator + Copy, M: Matcher>(
-    found: &mut Sets<A>,
-    row: &DataSet<A>,
-    keys: &Keys<A>,
-    matcher: &mut M,
+fn add_held<A: Allocator + Copy>(
+    rows: &mut SharedRows<A>,
+    held: Option<&HeldRow<A>>,
 ) -> Result<(), AllocError>
-    requires { M.asked matcher.old < 2 ^ 64 - 1 }
-    ensures found { OnOk result (found.new ≡ found.old ++ (if M.says keys.now row.now then answer row.now keys.now.attributes ∷ [] else [])) }
-    ensures count { M.asked matcher.new ≡ M.asked matcher.old + 1 }
+    ensures rows { OnOk result (rows.new ≡ rows.old ++ option_to_list (attributes_of (row_held (option_copied held.entry)))) }
+    ensures lacks { OnErr result (is_some (option_copied held.entry) ≡ true) }
 {
-    if matcher.matches(keys, row) {
-        found.push(row.answer(keys.attributes())?)?;
-    }
-    Ok(())
-}
-
-/// Adds the answer of a step to keys if the step is held and its row matches them.
-///
-/// Errors: if memory runs out.
-fn add_held<A: Allocator + Copy, M: Matcher>(
-    found: &mut Sets<A>,
-    row: Option<&Row<A>>,
-    keys: &Keys<A>,
-    matcher: &mut M,
-) -> Result<(), AllocError>
-    requires { M.asked matcher.old < 2 ^ 64 - 1 }
-    ensures found { OnOk result (found.new ≡ found.old ++ answers_among (M.says keys.now) keys.now.attributes (option_to_list (attributes_of (option_copied row.entry)))) }
-    ensures count { M.asked matcher.new ≡ M.asked matcher.old + length (option_to_list (attributes_of (option_copied row.entry))) }
-{
-    match row {
-        Some(row) => add_match(found, &row.attributes, keys, matcher),
+    match held {
+        Some(held) => rows.add(&held.row),
         None => Ok(()),
     }
 }
 
-/// Returns the answers to keys of those candidates that are held and match them, in their order.
+/// Returns the rows of those candidates that are held, in their order.
 ///
 /// Errors: if memory runs out.
-fn matches_among<A: Allocator + Copy, M: Matcher>(
+fn rows_among<A: Allocator + Copy>(
     alloc: A,
     tables: &Tables<A>,
     candidates: &[StepUid],
-    keys: &Keys<A>,
-    matcher: &mut M,
-) -> Result<Sets<A>, AllocError>
-    requires { M.asked matcher.old + length candidates.now < 2 ^ 64 }
-    ensures found { IfOk result (λ sets. sets ≡ answers_among (M.says keys.now) keys.now.attributes (filter_map (attributes_at (as_steps tables.now.steps.entries)) candidates.now)) }
-    ensures each { OnOk result (M.asked matcher.new ≡ M.asked matcher.old + length (filter_map (attributes_at (as_steps tables.now.steps.entries)) candidates.now)) }
-    ensures most { M.asked matcher.new ≤ M.asked matcher.old + length (filter_map (attributes_at (as_steps tables.now.steps.entries)) candidates.now) }
+) -> Result<SharedRows<A>, AllocError>
+    ensures { IfOk result (λ rows. rows ≡ filter_map (attributes_at (as_steps tables.now.steps.entries)) candidates.now) }
 {
-    let mut found = Sets::new(alloc);
+    let mut rows = SharedRows::new(alloc);
     for candidate in candidates {
-        let row = known(tables, Some(*candidate));
-        add_held(&mut found, row, keys, matcher)?;
+        let held = find(tables, *candidate);
+        add_held(&mut rows, held)?;
     }
-    Ok(found)
+    Ok(rows)
 }
 
-/// Returns the answers to keys of the held steps that match them, in order of creation.
+/// Returns the rows of the steps of a query's class, in order of creation: the held steps that have its first indexed
+/// key, or all of them if it has none. Nothing is copied.
 ///
 /// Errors: if memory runs out.
-pub(crate) fn matches_of_all<A: Allocator + Copy, M: Matcher>(
-    alloc: A,
-    tables: &Tables<A>,
-    keys: &Keys<A>,
-    matcher: &mut M,
-) -> Result<Sets<A>, AllocError>
-    requires { M.asked matcher.old < 2 ^ 63 }
-    ensures found { IfOk result (λ sets. sets ≡ answers_among (M.says keys.now) keys.now.attributes (attributes_in (as_steps tables.now.steps.entries))) }
-    ensures each { OnOk result (M.asked matcher.new ≡ M.asked matcher.old + length tables.now.steps.entries) }
-    ensures most { M.asked matcher.new ≤ M.asked matcher.old + length tables.now.steps.entries }
-{
-    let mut found = Sets::new(alloc);
-    for (_, held) in tables.steps.iter() {
-        add_match(&mut found, &held.row.attributes, keys, matcher)?;
-    }
-    Ok(found)
-}
-
-/// Returns the answers to a query of the steps of its class that match it, in order of creation. The class is the held
-/// steps that have its first indexed key, or all of them if it has none; the matcher is asked about no others.
-///
-/// Errors: if memory runs out.
-pub(crate) fn matches_of_class<A: Allocator + Copy, M: Matcher>(
+pub(crate) fn rows_of_class<A: Allocator + Copy>(
     alloc: A,
     tables: &Tables<A>,
     index: &Index<A>,
     keys: &Keys<A>,
-    matcher: &mut M,
-) -> Result<Sets<A>, AllocError>
-    requires count { M.asked matcher.old < 2 ^ 63 }
+) -> Result<SharedRows<A>, AllocError>
     requires indexed { index.now.steps ≡ map (indexed index.now.offset) (as_steps tables.now.steps.entries) }
     requires once { Distinct (uids_in (as_steps tables.now.steps.entries)) }
-    ensures found { IfOk result (λ sets. sets ≡ answers_among (M.says keys.now) keys.now.attributes (class index.now.offset keys.now (attributes_in (as_steps tables.now.steps.entries)))) }
-    ensures each { OnOk result (M.asked matcher.new ≡ M.asked matcher.old + length (class index.now.offset keys.now (attributes_in (as_steps tables.now.steps.entries)))) }
-    ensures most { M.asked matcher.new ≤ M.asked matcher.old + length (class index.now.offset keys.now (attributes_in (as_steps tables.now.steps.entries))) }
+    ensures { IfOk result (λ rows. rows ≡ class index.now.offset keys.now (attributes_in (as_steps tables.now.steps.entries))) }
 {
     match index.candidates(keys)? {
-        Some(candidates) => matches_among(alloc, tables, candidates.as_slice(), keys, matcher),
-        None => matches_of_all(alloc, tables, keys, matcher),
+        Some(candidates) => rows_among(alloc, tables, candidates.as_slice()),
+        None => tables.steps.rows(alloc),
     }
+}
+
+/// Returns the row of a step, or none if no step is given or it is not held.
+///
+/// Errors: if memory runs out. The step is held then.
+pub(crate) fn row_of_step<A: Allocator + Copy>(
+    alloc: A,
+    tables: &Tables<A>,
+    step: Option<StepUid>,
+) -> Result<SharedRows<A>, AllocError>
+    ensures row { IfOk result (λ rows. rows ≡ option_to_list (attributes_of (Rattle.ups_tables.specs.HeldSteps.row_of_step step (as_steps tables.now.steps.entries)))) }
+    ensures lacks { OnErr result (is_some (Rattle.ups_tables.specs.HeldSteps.row_of_step step (as_steps tables.now.steps.entries)) ≡ true) }
+{
+    let mut rows = SharedRows::new(alloc);
+    let Some(step) = step else {
+        return Ok(rows);
+    };
+    let held = find(tables, step);
+    add_held(&mut rows, held)?;
+    Ok(rows)
 }

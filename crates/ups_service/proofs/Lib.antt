@@ -3,6 +3,7 @@ pub mod Calling
 mod Delivering
 mod Got
 pub mod Legality
+pub mod Looks
 pub mod Members
 mod Numbers
 pub mod OneClaim

@@ -1,7 +1,7 @@
 //! The laws that a caller of a service may rely on, and that services sharing a history build on: each is the contract
 //! of a function that does nothing.
 
-ghost use Rattle.std.specs.Prelude.{◌≡◌, ◌≤◌, ◌<◌, ◌+◌, ◌++◌, ℕ, List, [], length, map, Some, All, Contains};
+ghost use Rattle.std.specs.Prelude.{◌≡◌, ◌≤◌, ◌<◌, ◌+◌, ◌++◌, ℕ, List, [], length, map, Some, All, Contains, true};
 ghost use Rattle.std.specs.List.{AllByRecursion, AllPairs};
 ghost use Rattle.ups_life.specs.declared.entry.Entry.{Entry};
 ghost use Rattle.ups_life.specs.declared.event.Event.{Event};
@@ -13,7 +13,8 @@ ghost use Rattle.ups_life.specs.Settings.{Settings};
 ghost use Rattle.ups_life.specs.Steps.{past, holder};
 ghost use Rattle.ups_life.specs.Events.{acked, events, pending, up_to, view};
 ghost use Rattle.ups_service.specs.Claiming.{HasClaimed};
-ghost use Rattle.ups_service.specs.Law.{Others, Seen, bounded, unbounded, all_made, is_legal, BeginsHistory, entered, lacking, Calls, AllGranted};
+ghost use Rattle.ups_service.specs.Law.{Others, Seen, bounded, unbounded, all_made, is_legal, BeginsHistory, entered, lacking, reply_to, Calls, AllGranted};
+ghost use Rattle.ups_service.specs.Looking.{is_look, rows_for, reply_from};
 ghost use Rattle.ups_service.specs.Reporting.{reports_to, MayHaveGot};
 
 use std::alloc::Allocator;
@@ -37,6 +38,18 @@ pub fn an_entry_has_the_number_of_its_caller<A: Allocator + Copy>()
 /// A call for which memory ran out enters nothing.
 pub fn want_of_memory_enters_nothing<A: Allocator + Copy>()
     ensures { (caller : ℕ) → (ae : List ℕ) → (moment : ℕ) → (ask : Ask A) → entered caller ae moment ask (Answered (lacking ask)) ≡ [] }
+{}
+
+/// The reply to an N-GET or a query rests on some rows of the history alone: the reply by these rows is that by the
+/// history, whoever asks and when.
+pub fn a_look_rests_on_its_rows<A: Allocator + Copy>()
+    ensures { (s : Settings) → (history : List (Entry A)) → (caller : ℕ) → (ae : List ℕ) → (moment : ℕ) → (ask : Ask A) → is_look ask ≡ true
+        → reply_from (rows_for s history ask) ask ≡ reply_to s history caller ae moment ask }
+{}
+
+/// An N-GET and a query enter nothing.
+pub fn a_look_enters_nothing<A: Allocator + Copy>()
+    ensures { (caller : ℕ) → (ae : List ℕ) → (moment : ℕ) → (ask : Ask A) → (reply : Reply A) → is_look ask ≡ true → entered caller ae moment ask reply ≡ [] }
 {}
 
 /// Each ask takes one call, and while calls are left, each reply follows from the history.

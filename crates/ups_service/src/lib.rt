@@ -3,10 +3,12 @@
 #![tactic(auto)]
 
 pub mod laws;
+mod looking;
 mod observer;
 mod service;
 mod shared_service;
 
+pub use looking::{complete, found_among, is_look, shown_first};
 pub use observer::Observer;
 pub use service::Service;
 pub use shared_service::SharedService;

@@ -1,20 +1,22 @@
 //! The service that numbered callers share, one call at a time.
 
-use std::alloc::Allocator;
+use std::alloc::{AllocError, Allocator};
 use ups_history::History;
 use ups_life::{Ask, Reply};
 use ups_pdu::Ae;
+use ups_rows::SharedRows;
 
 /// A service that callers share, one call at a time. It has the settings, and one history, in which each entry has the
 /// number of its caller. A manager is one.
 pub trait SharedService<A: Allocator + Copy>: Drop {
-    ghost use Rattle.std.specs.Prelude.{◌≡◌, ◌++◌, ℕ, true, is_some, length};
+    ghost use Rattle.std.specs.Prelude.{◌≡◌, ◌++◌, ℕ, true, is_some, length, IfOk, OnErr};
     ghost use Rattle.std.specs.Option.{IfSome};
     ghost use Rattle.ups_life.specs.Settings.{IsMoment};
     ghost use Rattle.ups_life.specs.Steps.{past};
     ghost use Rattle.ups_life.specs.Events.{pending};
     ghost use Rattle.ups_service.specs.Asked.{NotesAsked};
-    ghost use Rattle.ups_service.specs.Law.{Answers, SmallReply, entered, is_legal};
+    ghost use Rattle.ups_service.specs.Law.{Answers, SmallReply, entered, is_granted, is_legal};
+    ghost use Rattle.ups_service.specs.Looking.{is_look, rows_for, reply_from};
     ghost use Rattle.ups_service.specs.State.{State};
 
     /// The settings, and the accepted requests, oldest first.
@@ -45,6 +47,21 @@ pub trait SharedService<A: Allocator + Copy>: Drop {
     /// them: some at each call, so that it takes no long time. No answer tells whether they have left. Returns whether
     /// a further call can let more of them go.
     fn let_go(&mut self, upto: usize) -> bool
+        ensures state { state self.new ≡ state self.old }
+        ensures asked { asked self.new ≡ asked self.old };
+
+    /// Returns the rows on which the reply to an N-GET or a query rests. [`complete`](crate::complete) makes the reply from
+    /// them without the service, so that nobody waits meanwhile. The rows are shared, not copied.
+    ///
+    /// # Errors
+    ///
+    /// If memory runs out, as it can't for a step that is not held.
+    fn look(&mut self, ask: &Ask<A>) -> Result<SharedRows<A>, AllocError>
+        requires look { is_look ask.now ≡ true }
+        ensures rows { IfOk result (λ rows. rows ≡ rows_for (state self.old).settings (state self.old).history ask.now) }
+        ensures lacks { OnErr result (is_granted (reply_from (rows_for (state self.old).settings (state self.old).history ask.now) ask.now) ≡ true) }
+        ensures small { SmallReply (reply_from (rows_for (state self.old).settings (state self.old).history ask.now) ask.now) }
+        ensures legal { is_legal (state self.old).settings (state self.old).history }
         ensures state { state self.new ≡ state self.old }
         ensures asked { asked self.new ≡ asked self.old };
 

@@ -9,7 +9,7 @@ ghost use Rattle.std.specs.Str.{bytes_eq};
 ghost use Rattle.ups_life.specs.Watching.{is_among};
 ghost use Rattle.ups_keep.specs.Waits.{steps_of};
 ghost use Rattle.ups_steps.specs.declared.held.HeldRow.{HeldRow as HeldOf};
-ghost use Rattle.ups_steps.specs.Held.{held_at, final_of, put_held};
+ghost use Rattle.ups_steps.specs.Held.{held_at, final_of, put_held, attributes_held};
 
 use crate::held::HeldRow;
 use crate::iter::Iter;
@@ -19,6 +19,7 @@ use std::alloc::{AllocError, Allocator};
 use std::marker::Model;
 use ups_keep::Final;
 use ups_life::StepUid;
+use ups_rows::SharedRows;
 
 /// The held steps, in order of creation, each under its UID. A removed step leaves its place free, so that none of the
 /// others is moved; the free places are removed when they are more than half of all.
@@ -93,7 +94,7 @@ impl<A: Allocator + Copy> Steps<A> {
         ensures { result ≡ final_of (held_at step self.now.entries) }
     {
         match self.get(step) {
-            Some(held) => held.row.final_at,
+            Some(held) => held.row.get().final_at,
             None => None,
         }
     }
@@ -119,6 +120,21 @@ impl<A: Allocator + Copy> Steps<A> {
         ensures unique { IsDistinct bytes_eq (keys_of self.now.entries) }
     {
         self.iter().map(|(step, _)| *step).collect(alloc)
+    }
+
+    /// Returns the rows of the held steps, in order of creation, which the caller then shares. Nothing is copied.
+    ///
+    /// # Errors
+    ///
+    /// If memory runs out.
+    pub fn rows(&self, alloc: A) -> Result<SharedRows<A>, AllocError>
+        ensures { IfOk result (λ rows. rows ≡ attributes_held self.now.entries) }
+    {
+        let mut rows = SharedRows::new(alloc);
+        for (_, held) in self.iter() {
+            rows.add(&held.row)?;
+        }
+        Ok(rows)
     }
 
     /// Appends a step that is not held. It uses the room of one step.

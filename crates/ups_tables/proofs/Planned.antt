@@ -28,6 +28,7 @@ use Rattle.ups_life.specs.Watching.{held, is_among, is_held, is_peer, known, tak
 use Rattle.ups_life.specs.History.{repeats, receiver_of, of_peer, of_lock, sized, row_then, status}
 use Rattle.ups_life.proofs.HeldOnce.{held_once}
 use Rattle.ups_keep.specs.declared.due.Final.{Final}
+use Rattle.ups_watch.specs.declared.cover.Cover.{Cover}
 use Rattle.ups_watch.specs.Covers.{subscription_gained}
 use Rattle.ups_tables.specs.declared.rows.HeldStep.{HeldStep}
 use Rattle.ups_tables.specs.HeldSteps.{claims_it, held_step, held_steps, step_at, row_in, put_step}
@@ -60,6 +61,13 @@ pub record Fresh {A : Type 0} (s : Settings) (es : List (Entry A)) (e : Entry A)
 -- what is told of a step that is created does not depend on what was before
 pub created_news : {A : Type 0} (step : List ℕ) (before after : Row A) (r : Request A) (named : List ℕ) (set : List El) → r ≡ Create named set → report_now step after ∷ [] ≡ news_by step before after r
 created_news step before after r named set is = ap (λ (x : Request _). news_by step before after x) (sym is)
+
+-- the same of the row that is read out of what is held
+pub told_after : {A : Type 0} (step : List ℕ) (before : Option (Row A)) (r after : Row A) (request : Request A) (told : List Report) → told ≡ news_by step (unwrap_or before nothing) r request → r ≡ after → told ≡ news_by step (unwrap_or before nothing) after request
+told_after {A} step before r after request told is same = is ∙ ap (λ (k : Row A). news_by step (unwrap_or before nothing) k request) same
+
+pub gained_after : {A : Type 0} (cover : Option (Cover A)) (how : Option Subscription) (before : List El) (r after : Row A) → r ≡ after → subscription_gained cover how before r.attributes ≡ subscription_gained cover how before after.attributes
+gained_after {A} cover how before r after same = ap (λ (k : Row A). subscription_gained cover how before k.attributes) same
 
 module _ {A : Type 0} (s : Settings) (history : List (Entry A)) (e : Entry A) (t : Tables A) (step : List ℕ) (x : HeldRow A) (old : Stands s history t) (fresh : Fresh s (past history) e t step x) where
   kept : as_steps t.steps.entries ≡ held_steps s (past history)

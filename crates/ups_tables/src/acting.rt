@@ -41,7 +41,7 @@ pub(crate) fn create<A: Allocator + Copy>(
     ensures fits { TablesFit tables.new }
 {
     use_uid(&mut tables.used, step);
-    tables.watchers.created(step, &held.row.attributes);
+    tables.watchers.created(step, &held.row.get().attributes);
     tables
         .queues
         .tell_each(tables.watchers.of_step(step), entry, news);
@@ -77,7 +77,7 @@ pub(crate) fn change<A: Allocator + Copy>(
         .tell_each(tables.watchers.of_step(step), entry, news);
     tables.queues.tell_each(newly, entry, first);
     tables.watchers.subscribe_each(step, newly);
-    let after = waiting_in(&tables.watchers, step, held.row.final_at);
+    let after = waiting_in(&tables.watchers, step, held.row.get().final_at);
     settle(&mut tables.due, step, before, after);
     tables.steps.put(step, held);
     tables.watchers.learn();

@@ -8,12 +8,13 @@ ghost use Rattle.ups_tables.specs.Taken.{taken_in, steps_in, report_of_row};
 ghost use Rattle.ups_tables.specs.Keyed.{as_steps};
 
 use crate::tables::Tables;
-use crate::telling::report_now;
+use crate::telling::report_held;
 use std::alloc::{AllocError, Allocator};
 use ups_dataset::DataSet;
-use ups_life::{Peer, Report, Row, StepUid, Subscription, Target, may_lock};
+use ups_life::{Peer, Report, StepUid, Subscription, Target, may_lock};
 use ups_match::{Matcher, Probe};
 use ups_pdu::Ae;
+use ups_steps::HeldRow;
 use ups_watch::Cover;
 
 /// Returns the subscription granted to a watcher that asks for a deletion lock, or for none (PS3.4 CC.2.3).
@@ -74,71 +75,50 @@ fn takes_in<A: Allocator + Copy>(target: &Target<A>, step: StepUid, attributes: 
     }
 }
 
-/// Adds a step if it is taken in.
+/// Returns whether a subscription to this target takes in a held step.
+fn is_taken<A: Allocator + Copy>(target: &Target<A>, step: StepUid, held: &HeldRow<A>) -> bool
+    ensures { result ≡ takes_in target.now step held.now.row.attributes }
+{
+    takes_in(target, step, &held.row.get().attributes)
+}
+
+/// Adds a step, and a State Report of its present state, if it is taken in.
 ///
 /// Errors: if memory runs out.
-fn add_step<A: Allocator + Copy>(
-    found: &mut Vec<StepUid, A>,
+fn add_chosen<A: Allocator + Copy>(
+    steps: &mut Vec<StepUid, A>,
+    news: &mut Vec<Report, A>,
     step: StepUid,
+    held: &HeldRow<A>,
     taken: bool,
 ) -> Result<(), AllocError>
-    ensures { OnOk result (found.new.items ≡ found.old.items ++ (if taken then step ∷ [] else [])) }
+    ensures steps { OnOk result (steps.new.items ≡ steps.old.items ++ (if taken then step ∷ [] else [])) }
+    ensures news { OnOk result (news.new.items ≡ news.old.items ++ (if taken then report_now step held.now.row ∷ [] else [])) }
 {
     if taken {
-        found.push(step)?;
+        steps.push(step)?;
+        news.push(report_held(step, held))?;
     }
     Ok(())
 }
 
-/// Adds a State Report of the present state of a step if the step is taken in.
+/// Returns the steps that a subscription to this target takes in, in order of creation, and a State Report of each. Each
+/// held step is compared with the target once.
 ///
 /// Errors: if memory runs out.
-fn add_report<A: Allocator + Copy>(
-    found: &mut Vec<Report, A>,
-    step: StepUid,
-    row: &Row<A>,
-    taken: bool,
-) -> Result<(), AllocError>
-    ensures { OnOk result (found.new.items ≡ found.old.items ++ (if taken then report_now step row.now ∷ [] else [])) }
-{
-    if taken {
-        found.push(report_now(step, row))?;
-    }
-    Ok(())
-}
-
-/// Returns the steps that a subscription to this target takes in, in order of creation.
-///
-/// Errors: if memory runs out.
-pub(crate) fn chosen_steps<A: Allocator + Copy>(
+pub(crate) fn chosen<A: Allocator + Copy>(
     alloc: A,
     tables: &Tables<A>,
     target: &Target<A>,
-) -> Result<Vec<StepUid, A>, AllocError>
-    ensures { IfOk result (λ v. v.items ≡ steps_in (taken_in target.now (as_steps tables.now.steps.entries))) }
+) -> Result<(Vec<StepUid, A>, Vec<Report, A>), AllocError>
+    ensures steps { IfOk result (λ r. r.0.items ≡ steps_in (taken_in target.now (as_steps tables.now.steps.entries))) }
+    ensures news { IfOk result (λ r. r.1.items ≡ map report_of_row (taken_in target.now (as_steps tables.now.steps.entries))) }
 {
-    let mut found = Vec::new(alloc);
+    let mut steps = Vec::new(alloc);
+    let mut news = Vec::new(alloc);
     for (step, held) in tables.steps.iter() {
-        let taken = takes_in(target, *step, &held.row.attributes);
-        add_step(&mut found, *step, taken)?;
+        let taken = is_taken(target, *step, held);
+        add_chosen(&mut steps, &mut news, *step, held, taken)?;
     }
-    Ok(found)
-}
-
-/// Returns a State Report of each step that a subscription to this target takes in, in order of creation.
-///
-/// Errors: if memory runs out.
-pub(crate) fn chosen_reports<A: Allocator + Copy>(
-    alloc: A,
-    tables: &Tables<A>,
-    target: &Target<A>,
-) -> Result<Vec<Report, A>, AllocError>
-    ensures { IfOk result (λ v. v.items ≡ map report_of_row (taken_in target.now (as_steps tables.now.steps.entries))) }
-{
-    let mut found = Vec::new(alloc);
-    for (step, held) in tables.steps.iter() {
-        let taken = takes_in(target, *step, &held.row.attributes);
-        add_report(&mut found, *step, &held.row, taken)?;
-    }
-    Ok(found)
+    Ok((steps, news))
 }

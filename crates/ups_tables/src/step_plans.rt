@@ -16,7 +16,7 @@ ghost use Rattle.ups_tables.specs.Stands.{Stands};
 
 use crate::plan::Plan;
 use crate::tables::Tables;
-use crate::telling::{alone, news, report_now};
+use crate::telling::{alone, news, report_held};
 use std::alloc::{AllocError, Allocator};
 use ups_dataset::DataSet;
 use ups_history::History;
@@ -28,7 +28,7 @@ fn row_of<A: Allocator + Copy>(held: Option<&HeldRow<A>>) -> Option<&Row<A>>
     ensures { option_copied result ≡ row_held (option_copied held.entry) }
 {
     match held {
-        Some(held) => Some(&held.row),
+        Some(held) => Some(held.row.get()),
         None => None,
     }
 }
@@ -76,7 +76,7 @@ pub fn plan_step<A: Allocator + Copy>(
     ensures { IfOk result (λ p. IsPlan configuration.now (past history.now.entries) entry.now tables.now p) }
 {
     if let Request::Create { .. } = &entry.request {
-        let created = alone(alloc, report_now(step, &held.row))?;
+        let created = alone(alloc, report_held(step, &held))?;
         return Ok(Plan::Create {
             step,
             held,
@@ -85,11 +85,11 @@ pub fn plan_step<A: Allocator + Copy>(
     }
     let found = tables.steps.get(step);
     let before = row_of(found);
-    let told = news(alloc, step, before, &held.row, &entry.request)?;
+    let told = news(alloc, step, before, held.row.get(), &entry.request)?;
     match &entry.request {
         Request::Set { .. } => {
-            let newly = newly_of(tables, step, before, &held.row.attributes)?;
-            let first = alone(alloc, report_now(step, &held.row))?;
+            let newly = newly_of(tables, step, before, &held.row.get().attributes)?;
+            let first = alone(alloc, report_held(step, &held))?;
             Ok(Plan::Set {
                 step,
                 held,

@@ -10,6 +10,7 @@ use std::alloc::{AllocError, Allocator};
 use ups_cycle::StepState;
 use ups_life::{EventKind, InputReadiness, Report, Request, Row, StepUid};
 use ups_rules::{cancel_reports, readiness_in, set_reports};
+use ups_steps::HeldRow;
 
 /// Returns a State Report of the present state of a step, from its row (PS3.4 CC.2.4).
 pub(crate) fn report_now<A: Allocator + Copy>(step: StepUid, row: &Row<A>) -> Report
@@ -21,6 +22,13 @@ pub(crate) fn report_now<A: Allocator + Copy>(step: StepUid, row: &Row<A>) -> Re
         state: row.state,
         readiness: readiness_in(&row.attributes),
     }
+}
+
+/// Returns a State Report of the present state of a held step (PS3.4 CC.2.4).
+pub(crate) fn report_held<A: Allocator + Copy>(step: StepUid, held: &HeldRow<A>) -> Report
+    ensures { result ≡ report_now step held.now.row }
+{
+    report_now(step, held.row.get())
 }
 
 /// Returns a list of one report.

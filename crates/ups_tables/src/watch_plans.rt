@@ -10,12 +10,12 @@ ghost use Rattle.ups_tables.specs.Places.{place_of_title};
 ghost use Rattle.ups_tables.specs.Planned.{IsPlan};
 ghost use Rattle.ups_tables.specs.Stands.{Stands};
 
-use crate::choosing::{chosen_reports, chosen_steps, cover_to, granted, single_step};
+use crate::choosing::{chosen, cover_to, granted, single_step};
 use crate::freeing::{freed_everywhere, freed_steps};
 use crate::peers::place_of;
 use crate::plan::Plan;
 use crate::tables::Tables;
-use crate::telling::{alone, report_now};
+use crate::telling::{alone, report_held};
 use std::alloc::{AllocError, Allocator};
 use ups_history::History;
 use ups_life::{Configuration, Entry, Place, StepUid, Target};
@@ -45,7 +45,7 @@ fn plan_single<A: Allocator + Copy>(
     let Some(held) = tables.steps.get(step) else {
         unreachable!();
     };
-    let news = alone(alloc, report_now(step, &held.row))?;
+    let news = alone(alloc, report_held(step, held))?;
     Ok(Plan::Single {
         peer,
         step,
@@ -80,8 +80,7 @@ fn plan_global<A: Allocator + Copy>(
         unreachable!();
     };
     let how = Some(cover.subscription);
-    let chosen = chosen_steps(alloc, tables, target)?;
-    let news = chosen_reports(alloc, tables, target)?;
+    let (chosen, news) = chosen(alloc, tables, target)?;
     let freed = freed_steps(alloc, tables, peer, how, chosen.as_slice())?;
     Ok(Plan::Global {
         peer,

@@ -8,3 +8,4 @@ mod Meets
 mod Opens
 mod Closes
 mod Owns
+mod Looked

@@ -1,12 +1,13 @@
 //! The desk: it opens over a manager, lets passes meet, and closes when all passes are back.
-ghost use Rattle.std.specs.Prelude.{◌≡◌, ◌≢◌, ℕ, ◌≤◌, ◌<◌, [], ◌∷◌, All, length, map, true, false, is_some, nat_lt, MatchBool, MatchOption, Some, None, vec_capacity, IfOk, IfErr, OnOk};
+ghost use Rattle.std.specs.Prelude.{◌≡◌, ◌≢◌, ℕ, List, ◌≤◌, ◌<◌, [], ◌∷◌, All, length, map, true, false, is_some, nat_lt, MatchBool, MatchOption, Some, None, vec_capacity, IfOk, IfErr, OnOk, OnErr};
 ghost use Rattle.std.specs.Option.{IfSome};
 ghost use Rattle.ups_life.specs.Settings.{IsMoment};
 ghost use Rattle.ups_life.specs.Steps.{past};
 ghost use Rattle.ups_life.specs.Events.{pending};
 ghost use Rattle.ups_service.specs.State.{State};
-ghost use Rattle.ups_service.specs.Law.{SmallReply, is_legal};
-ghost use Rattle.ups_turn.specs.Pass.{HasObserved, IsCall, Learns, most_calls, SamePass, IsShelf, EndsFor, HaveNumbers, are_seats, most_seats, open_fault, passes_from, part_of};
+ghost use Rattle.ups_service.specs.Law.{SmallReply, is_granted, is_legal};
+ghost use Rattle.ups_service.specs.Looking.{is_look, rows_for, reply_from};
+ghost use Rattle.ups_turn.specs.Pass.{HasObserved, IsCall, IsServed, Learns, most_calls, SamePass, IsShelf, EndsFor, HaveNumbers, are_seats, most_seats, open_fault, passes_from, part_of};
 ghost use Rattle.ups_turn.specs.Plays.{longer};
 ghost use Rattle.ups_turn.specs.Rule.{Behind, EnteredByPasses, opening_view};
 
@@ -16,12 +17,12 @@ use crate::held::Held;
 use crate::pass::Pass;
 use crate::rule::{DeskTable, InTurn, PassSeat};
 use crate::turn::{
-    COUNT, absorb, call_in_turn, deal, let_go_in_turn, low_half, note, observe_in_turn, settle,
-    waiting_in_turn,
+    COUNT, absorb, call_in_turn, deal, let_go_in_turn, look_in_turn, low_half, note,
+    observe_in_turn, settle, waiting_in_turn,
 };
 use crate::view::{Opening, View};
 use atomic_table::{Refused, Table};
-use std::alloc::Allocator;
+use std::alloc::{AllocError, Allocator};
 use std::marker::Model;
 use std::snapshot::Snapshot;
 use std::sync::atomic::{AtomicU64, Ordering};
@@ -30,7 +31,8 @@ use std::time::Duration;
 use ups_cycle::Status;
 use ups_life::{Ask, Reply};
 use ups_pdu::Ae;
-use ups_service::{Observer, SharedService};
+use ups_rows::SharedRows;
+use ups_service::{Observer, SharedService, complete, is_look};
 
 /// The greatest number of passes of a desk. Even if all of them make all their calls, the tickets stay far below what a
 /// word holds.
@@ -153,13 +155,13 @@ fn deal_out<M: SharedService<A>, A: Allocator + Copy>(
     }
 }
 
-// Returns the status with which a pass that has made all its calls answers an ask: the one that says, for its kind,
-// that resources are exhausted (PS3.7 annex C, PS3.4 section C.4.1.1.4).
-fn lacking<A: Allocator + Copy>(ask: &Option<Ask<A>>) -> Status
-    ensures { IfSome ask.now (λ asked. result ≡ Rattle.ups_service.specs.Law.lacking asked) }
+// Returns the status that says, for the kind of an ask, that resources are exhausted (PS3.7 annex C, PS3.4 section
+// C.4.1.1.4).
+fn lacking<A: Allocator + Copy>(ask: &Ask<A>) -> Status
+    ensures { result ≡ Rattle.ups_service.specs.Law.lacking ask.now }
 {
     match ask {
-        Some(Ask::Find(_)) => Status::OutOfResources,
+        Ask::Find(_) => Status::OutOfResources,
         _ => Status::ResourceLimitation,
     }
 }
@@ -245,7 +247,81 @@ impl<M: SharedService<A>, A: Allocator + Copy> Desk<M, A> {
         At::new(rt, self, pass)
     }
 
-    /// Makes one call of a pass, in its turn. A pass that has made 2^40 calls is refused. Only the manager takes the ask
+    /// Returns the rows on which the reply to an N-GET or a query rests, taken in a turn of the pass, which has then seen
+    /// the history that they are of. The turn is over when this returns.
+    ///
+    /// Errors: if memory runs out.
+    fn rows_of_look<R: Wait>(
+        &self,
+        rt: &R,
+        pass: &mut Pass<M, A>,
+        ask: &Ask<A>,
+    ) -> Result<SharedRows<A>, AllocError>
+        requires look { is_look ask.now ≡ true }
+        requires here { pass.old.table ≡ self.now.table }
+        requires left { pass.old.calls < most_calls }
+        ensures pass { HasObserved pass.old pass.new }
+        ensures rows { IfOk result (λ rows. rows ≡ rows_for pass.new.settings pass.new.seen ask.now) }
+        ensures lacks { OnErr result (is_granted (reply_from (rows_for pass.new.settings pass.new.seen ask.now) ask.now) ≡ true) }
+        ensures small { SmallReply (reply_from (rows_for pass.new.settings pass.new.seen ask.now) ask.now) }
+    {
+        let _held = self.ticket_lock.lock(rt);
+        let shelf = &self.table.shared;
+        let (rows, seen) = look_in_turn(rt, shelf, &mut pass.place, pass.number, ask);
+        pass.front = seen;
+        pass.calls += 1;
+        rows
+    }
+
+    /// Makes a call of a pass that is an N-GET or a query: takes rows in a turn, and makes the reply from them outside of
+    /// it, so that other passes have their turns meanwhile.
+    fn look<R: Wait>(&self, rt: &R, pass: &mut Pass<M, A>, ask: &Ask<A>) -> Reply<A>
+        requires look { is_look ask.now ≡ true }
+        requires here { pass.old.table ≡ self.now.table }
+        requires left { pass.old.calls < most_calls }
+        ensures served { (ae : List ℕ) → (moment : ℕ) → IsServed pass.old ae moment ask.now result pass.new }
+        ensures small { SmallReply result }
+    {
+        match self.rows_of_look(rt, pass, ask) {
+            Ok(rows) => complete(ask, &rows),
+            Err(_) => Reply::Status(lacking(ask)),
+        }
+    }
+
+    /// Makes a call of a pass, whatever it asks, in its turn.
+    fn call_in<R: Wait>(
+        &self,
+        rt: &R,
+        pass: &mut Pass<M, A>,
+        ae: Ae,
+        moment: u64,
+        ask: &mut Option<Ask<A>>,
+    ) -> Reply<A>
+        requires given { is_some ask.old ≡ true }
+        requires moment { IsMoment moment }
+        requires here { pass.old.table ≡ self.now.table }
+        requires left { pass.old.calls < most_calls }
+        ensures served { IfSome ask.old (λ asked. IsServed pass.old ae moment asked result pass.new) }
+        ensures small { SmallReply result }
+    {
+        let _held = self.ticket_lock.lock(rt);
+        let shelf = &self.table.shared;
+        let (reply, entries) = call_in_turn(
+            rt,
+            shelf,
+            &mut pass.place,
+            pass.number,
+            ae,
+            moment,
+            ask,
+        );
+        pass.front = entries;
+        pass.calls += 1;
+        reply
+    }
+
+    /// Makes one call of a pass. A pass that has made 2^40 calls is refused. An N-GET and a query take references to rows
+    /// in a turn, and are answered outside of it; anything else is answered in the turn. Only the manager takes the ask
     /// out of its option: an ask takes some 200 bytes, which are not moved on the way.
     pub(crate) fn call<R: Wait>(
         &self,
@@ -262,23 +338,16 @@ impl<M: SharedService<A>, A: Allocator + Copy> Desk<M, A> {
         ensures legal { is_legal pass.old.settings pass.old.seen }
         ensures small { SmallReply result }
     {
+        let Some(asked) = ask.as_ref() else {
+            unreachable!();
+        };
         if pass.calls >= MOST_CALLS {
-            return Reply::Status(lacking(ask));
+            return Reply::Status(lacking(asked));
         }
-        let _held = self.ticket_lock.lock(rt);
-        let shelf = &self.table.shared;
-        let (reply, entries) = call_in_turn(
-            rt,
-            shelf,
-            &mut pass.place,
-            pass.number,
-            ae,
-            moment,
-            ask,
-        );
-        pass.front = entries;
-        pass.calls += 1;
-        reply
+        if is_look(asked) {
+            return self.look(rt, pass, asked);
+        }
+        self.call_in(rt, pass, ae, moment, ask)
     }
 
     /// Shows the history to an observer in a turn of the pass, which has then seen it too. This enters nothing, but

@@ -1,17 +1,19 @@
 //! The manager of a desk, as the desk's table contains it.
 
-ghost use Rattle.std.specs.Prelude.{◌≡◌, ◌++◌, length, true, is_some, IfOk, IfErr};
+ghost use Rattle.std.specs.Prelude.{◌≡◌, ◌++◌, length, true, is_some, IfOk, IfErr, OnErr};
 ghost use Rattle.std.specs.Option.{IfSome};
 ghost use Rattle.ups_life.specs.Settings.{IsMoment};
 ghost use Rattle.ups_life.specs.Steps.{past};
 ghost use Rattle.ups_life.specs.Events.{pending};
-ghost use Rattle.ups_service.specs.Law.{Answers, SmallReply, entered, is_legal};
+ghost use Rattle.ups_service.specs.Law.{Answers, SmallReply, entered, is_granted, is_legal};
+ghost use Rattle.ups_service.specs.Looking.{is_look, rows_for, reply_from};
 
-use std::alloc::Allocator;
+use std::alloc::{AllocError, Allocator};
 use std::marker::Model;
 use ups_history::History;
 use ups_life::{Ask, Reply};
 use ups_pdu::Ae;
+use ups_rows::SharedRows;
 use ups_service::SharedService;
 
 /// The manager that the passes share. A contract sees it as what was fixed at its start and its history, oldest entry
@@ -92,6 +94,19 @@ impl<M: SharedService<A>, A: Allocator + Copy> Held<M, A> {
         ensures { self.new ≡ self.old }
     {
         self.shared.let_go(upto)
+    }
+
+    /// Returns the rows on which the reply to an N-GET or a query rests.
+    ///
+    /// Errors: if memory runs out.
+    pub(crate) fn look(&mut self, ask: &Ask<A>) -> Result<SharedRows<A>, AllocError>
+        requires look { is_look ask.now ≡ true }
+        ensures rows { IfOk result (λ rows. rows ≡ rows_for self.old.settings self.old.history ask.now) }
+        ensures lacks { OnErr result (is_granted (reply_from (rows_for self.old.settings self.old.history ask.now) ask.now) ≡ true) }
+        ensures small { SmallReply (reply_from (rows_for self.old.settings self.old.history ask.now) ask.now) }
+        ensures same { self.new ≡ self.old }
+    {
+        self.shared.look(ask)
     }
 
     /// Answers what an application entity asks, and enters it if it is a request that is accepted.

@@ -1,21 +1,23 @@
 //! The steps of a turn: draw a ticket, look until it is served, take the manager, give it back, decide, serve; and a
 //! call made of them all.
-ghost use Rattle.std.specs.Prelude.{◌≡◌, ℕ, ◌+◌, ◌^◌, ◌<◌, ◌≤◌, ◌*◌, ◌==◌, length, [], true, false, is_some, All, Some, None, MatchBool};
+ghost use Rattle.std.specs.Prelude.{◌≡◌, ℕ, ◌+◌, ◌^◌, ◌<◌, ◌≤◌, ◌*◌, ◌==◌, length, [], true, false, is_some, All, Some, None, MatchBool, IfOk, OnErr};
 ghost use Rattle.std.specs.Option.{IfSome};
 ghost use Rattle.ups_life.specs.Settings.{IsMoment};
 ghost use Rattle.ups_life.specs.Steps.{past};
 ghost use Rattle.ups_life.specs.Events.{pending};
-ghost use Rattle.ups_service.specs.Law.{SmallReply, is_legal};
+ghost use Rattle.ups_service.specs.Law.{SmallReply, is_granted, is_legal};
+ghost use Rattle.ups_service.specs.Looking.{is_look, rows_for, reply_from};
 ghost use Rattle.ups_turn.specs.Pass.{HasObserved, IsAtRest, IsServed, IsShelf, most_calls, seen_in, standing};
 ghost use Rattle.ups_turn.specs.Plays.{with_ticket, at_turn, served, history_in, TakesTurn, MayDecide, MayServe, Took, MayGive, note_of, joined_views, kept_back, dealt, settled, CaughtUp};
 
 use crate::held::Held;
 use crate::rule::{Both, Deal, Decide, DeskTable, Draw, Look, Note, PassSeat, Serve, Settle};
-use std::alloc::Allocator;
+use std::alloc::{AllocError, Allocator};
 use std::hint::spin_loop;
 use std::sync::Wait;
 use ups_life::{Ask, Reply};
 use ups_pdu::Ae;
+use ups_rows::SharedRows;
 use ups_service::{Observer, SharedService};
 
 /// The word that counts the entered requests.
@@ -265,6 +267,35 @@ pub(crate) fn waiting_in_turn<M: SharedService<A>, A: Allocator + Copy, R: Wait>
     let entries = manager.entries();
     give(shelf, place, manager, 0);
     (waiting, entries)
+}
+
+/// Takes the rows on which the reply to an N-GET or a query rests in the turn of a seat that rests: takes the manager, and
+/// gives it back with the same history. Returns the rows, and the number of entered requests.
+pub(crate) fn look_in_turn<M: SharedService<A>, A: Allocator + Copy, R: Wait>(
+    rt: &R,
+    shelf: &DeskTable<M, A>,
+    place: &mut PassSeat<M, A>,
+    number: u32,
+    ask: &Ask<A>,
+) -> (Result<SharedRows<A>, AllocError>, u64)
+    requires look { is_look ask.now ≡ true }
+    requires table { IsShelf place.old.table_id shelf.now.table_id }
+    requires rests { IsAtRest number place.old.me }
+    requires left { place.old.me.0.draws < most_calls }
+    ensures table { place.new.table_id ≡ place.old.table_id }
+    ensures rests { IsAtRest number place.new.me }
+    ensures entries { result.1 ≡ length (seen_in place.new.me.0.parts) }
+    ensures legal { is_legal place.new.me.0.settings (seen_in place.new.me.0.parts) }
+    ensures standing { HasObserved (standing place.old.table_id number place.old.me.0) (standing place.new.table_id number place.new.me.0) }
+    ensures rows { IfOk result.0 (λ rows. rows ≡ rows_for place.new.me.0.settings (seen_in place.new.me.0.parts) ask.now) }
+    ensures lacks { OnErr result.0 (is_granted (reply_from (rows_for place.new.me.0.settings (seen_in place.new.me.0.parts) ask.now) ask.now) ≡ true) }
+    ensures small { SmallReply (reply_from (rows_for place.new.me.0.settings (seen_in place.new.me.0.parts) ask.now) ask.now) }
+{
+    let mut manager = take(rt, shelf, place);
+    let rows = manager.look(ask);
+    let entries = manager.entries();
+    give(shelf, place, manager, 0);
+    (rows, entries)
 }
 
 /// Lets requests leave memory in the turn of a seat that rests: takes the manager, and gives it back with the same

@@ -4,6 +4,8 @@ use Rattle.std.specs.Option.{unwrap_or}
 use Rattle.std.proofs.lemmas.Int.{to_z-of_z}
 use Rattle.ups_cycle.specs.declared.status.Status.TheVariants.{UnknownInstance}
 use Rattle.ups_cycle.specs.Statuses.{is_done}
+use Rattle.ups_index.specs.Stored.{values_of_row}
+use Rattle.ups_life.specs.declared.row.Row.{Row}
 use Rattle.ups_life.specs.Settings.{IsOffset}
 use Rattle.ups_life.specs.Steps.{past, row_after, nothing}
 use Rattle.ups_life.specs.History.{repeats}
@@ -85,7 +87,7 @@ returns-in-Ok-plan_step g c =
       plan = c.in-Ok-plan_step.ensures;
       small = subst (λ (l : List (HeldStep g.row.A.Denot)). AllByRecursion IsSmallStep l) (steps_after s history (as_steps entries) call x c.requires.stands.tables.legal kept a)
           (small_kept s history (as_steps entries) call x (subst (λ (l : List (HeldStep g.row.A.Denot)). AllByRecursion IsSmallStep l) (sym kept) c.requires.stands.small) a);
-      index = step_indexed s history call x c.in-Ok-of.values _ (as_steps entries) c.requires.stands.tables.legal (to_z-of_z w16 c.offset-offset.result (search rules) ∙ c.offset-offset.ensures) c.in-Ok-of.ensures kept
+      index = step_indexed s history call x c.in-Ok-of.values _ (as_steps entries) c.requires.stands.tables.legal (to_z-of_z w16 c.offset-offset.result (search rules) ∙ c.offset-offset.ensures) (c.in-Ok-of.ensures ∙ ap (λ (r : Row g.row.A.Denot). values_of_row (to_z w16 (of_z w16 c.offset-offset.result)) r.attributes) c.get.ensures) kept
           (steps_after s history (as_steps entries) call x c.requires.stands.tables.legal kept a);
     }
 

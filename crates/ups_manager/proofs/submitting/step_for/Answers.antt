@@ -37,18 +37,24 @@ returns-in_err-row-clause-fault g c =
           (subst (λ (z : ℤ). RowFails z c.args.call.now.moment (unwrap_or (option_copied c.row_of-row.result) nothing) r c.in_err-row.field-0.0) (to_z-of_z w16 c.args.offset c.ranges.offset) c.in_err-row.ensures.fault),
     ))
 
-pub returns-clause-allowed : goal.returns-clause-allowed
-returns-clause-allowed g c =
+pub returns-in-Ok-clause-allowed : goal.returns-in-Ok-clause-allowed
+returns-in-Ok-clause-allowed g c =
     let r = c.args.call.now.request in
     let row : option_copied c.row_of-row.result ≡ row_held (held_at c.args.step c.args.tables.now.steps.entries) = c.row_of-row.ensures ∙ ap row_held c.find-held.ensures in
     ap (λ o. verdict o (repeats (past c.args.history.now.entries) r) r) (sym row) ∙ c.in_ok-check_allowed.ensures.allowed
 
-pub returns-clause-row : goal.returns-clause-row
-returns-clause-row g c =
+pub returns-in-Ok-clause-row : goal.returns-in-Ok-clause-row
+returns-in-Ok-clause-row g c =
     let r = c.args.call.now.request in
     let row : option_copied c.row_of-row.result ≡ row_held (held_at c.args.step c.args.tables.now.steps.entries) = c.row_of-row.ensures ∙ ap row_held c.find-held.ensures in
-    c.in_ok-row.ensures.row ∙ ap (λ (z : ℤ). row_after z c.args.call.now.moment (unwrap_or (option_copied c.row_of-row.result) nothing) r) (to_z-of_z w16 c.args.offset c.ranges.offset)
+    c.in-Ok.ensures ∙ c.in_ok-row.ensures.row ∙ ap (λ (z : ℤ). row_after z c.args.call.now.moment (unwrap_or (option_copied c.row_of-row.result) nothing) r) (to_z-of_z w16 c.args.offset c.ranges.offset)
     ∙ ap (λ (o : Option (Row g.row.A.Denot)). row_after c.args.offset c.args.call.now.moment (unwrap_or o nothing) r) row
 
-pub returns-clause-holder : goal.returns-clause-holder
-returns-clause-holder g c = c.holder_after-holder.ensures ∙ ap (λ o. option_or (claims_it c.args.call.now) (holder_held o)) c.find-held.ensures
+pub returns-in-Ok-clause-holder : goal.returns-in-Ok-clause-holder
+returns-in-Ok-clause-holder g c = c.holder_after-holder.ensures ∙ ap (λ o. option_or (claims_it c.args.call.now) (holder_held o)) c.find-held.ensures
+
+pub returns-in-Err-clause-fault : goal.returns-in-Err-clause-fault
+returns-in-Err-clause-fault g c =
+    let r = c.args.call.now.request in
+    let row : option_copied c.row_of-row.result ≡ row_held (held_at c.args.step c.args.tables.now.steps.entries) = c.row_of-row.ensures ∙ ap row_held c.find-held.ensures in
+    inr (ap (λ o. verdict o (repeats (past c.args.history.now.entries) r) r) (sym row) ∙ c.in_ok-check_allowed.ensures.allowed, tt)

@@ -2,6 +2,7 @@ use Rattle.std.proofs.Common.{ℕ, List, Option, None, cond, get_or, length, ref
 use Rattle.std.specs.Prelude.{is_some}
 use Rattle.std.specs.Option.{option_or}
 use Rattle.std.specs.Str.{bytes_eq}
+use Rattle.ups_life.specs.declared.row.Row.{Row}
 use Rattle.ups_keep.specs.Waits.{waits}
 use Rattle.ups_steps.specs.declared.held.HeldRow.{HeldRow}
 use Rattle.ups_tables.specs.Held.{held_at, final_of}
@@ -21,4 +22,4 @@ returns-clause-fits g c =
     (λ u. c.settle.ensures.waits u
     ∙ ap (λ (o : Option ℕ). cond (bytes_eq c.args.step u) o (waits u c.args.tables.now.due.steps))
     (waits_so _ None _ _ _ _ c.waiting_in-after.ensures refl
-    (sym (ap (λ (xs : List (List ℕ × HeldRow g.row.A.Denot)). final_of (held_at c.args.step xs)) c.put.ensures.entries ∙ put_final_here c.args.step c.args.held hs))))
+    (ap (λ (r : Row g.row.A.Denot). r.final_at) c.get.ensures ∙ sym (ap (λ (xs : List (List ℕ × HeldRow g.row.A.Denot)). final_of (held_at c.args.step xs)) c.put.ensures.entries ∙ put_final_here c.args.step c.args.held hs))))

@@ -24,12 +24,12 @@ freed_steps-requires-clause-peer g c = subst (λ n. c.args.peer < n) (sym c.requ
 pub freed_steps-requires-clause-here : goal.freed_steps-requires-clause-here
 freed_steps-requires-clause-here g c =
     chosen_here c.args.configuration.now c.args.history.now.entries c.args.tables.now c.requires.stands c.args.target.now c.in_ok-chosen.chosen.items c.as_slice.result.now
-    (c.in_ok-chosen.ensures ∙ chosen_by c.args.configuration.now (past c.args.history.now.entries) c.args.target.now (as_steps c.args.tables.now.steps.entries) (steps_kept c.args.configuration.now c.args.history.now.entries c.args.tables.now c.requires.stands)) c.as_slice.ensures.value
+    (c.in_ok-chosen.ensures.steps ∙ chosen_by c.args.configuration.now (past c.args.history.now.entries) c.args.target.now (as_steps c.args.tables.now.steps.entries) (steps_kept c.args.configuration.now c.args.history.now.entries c.args.tables.now c.requires.stands)) c.as_slice.ensures.value
 
 pub freed_steps-requires-clause-once : goal.freed_steps-requires-clause-once
 freed_steps-requires-clause-once g c =
     chosen_once c.args.configuration.now c.args.history.now.entries c.args.tables.now c.requires.stands c.args.target.now c.in_ok-chosen.chosen.items c.as_slice.result.now
-    (c.in_ok-chosen.ensures ∙ chosen_by c.args.configuration.now (past c.args.history.now.entries) c.args.target.now (as_steps c.args.tables.now.steps.entries) (steps_kept c.args.configuration.now c.args.history.now.entries c.args.tables.now c.requires.stands)) c.as_slice.ensures.value
+    (c.in_ok-chosen.ensures.steps ∙ chosen_by c.args.configuration.now (past c.args.history.now.entries) c.args.target.now (as_steps c.args.tables.now.steps.entries) (steps_kept c.args.configuration.now c.args.history.now.entries c.args.tables.now c.requires.stands)) c.as_slice.ensures.value
 
 pub returns : goal.returns
 returns g c =
@@ -43,7 +43,7 @@ returns g c =
       lock = c.args.lock;
       request = c.requires.request;
       cover_is = sym c.in-Some.is ∙ c.in_ok-cover.ensures ∙ ap (cover_to c.args.target.now) how_is;
-      steps_are = c.in_ok-chosen.ensures ∙ chosen_by s es c.args.target.now (as_steps c.args.tables.now.steps.entries) (steps_kept s c.args.history.now.entries c.args.tables.now c.requires.stands);
+      steps_are = c.in_ok-chosen.ensures.steps ∙ chosen_by s es c.args.target.now (as_steps c.args.tables.now.steps.entries) (steps_kept s c.args.history.now.entries c.args.tables.now c.requires.stands);
       freed_are = freed_of c.args.tables.now c.args.peer c.in-Some.cover.subscription c.in_ok-chosen.chosen.items c.as_slice.result.now c.in_ok-freed.freed.items c.as_slice.ensures.value c.in_ok-freed.ensures;
-      news = c.in_ok-news.ensures ∙ reports_by s es c.args.target.now (as_steps c.args.tables.now.steps.entries) (steps_kept s c.args.history.now.entries c.args.tables.now c.requires.stands);
+      news = c.in_ok-chosen.ensures.news ∙ reports_by s es c.args.target.now (as_steps c.args.tables.now.steps.entries) (steps_kept s c.args.history.now.entries c.args.tables.now c.requires.stands);
     }

@@ -18,7 +18,7 @@ returns g c =
       request = c.requires.request;
       how_is = c.granted-subscription.ensures ∙ ap (λ (ps : List Peer). granted ps c.args.receiver c.args.lock) c.peers.ensures;
       here = found_held s c.args.history.now.entries c.args.tables.now c.requires.stands c.args.step c.in-Some.held.now c.in-Some.ensures;
-      news = c.in_ok-news.ensures ∙ ap (λ (x : Report). x ∷ []) c.report_now.ensures ∙ ap (λ (r : Row g.row.A.Denot). report_now c.args.step r ∷ []) (found_row s c.args.history.now.entries c.args.tables.now c.requires.stands c.args.step c.in-Some.held.now c.in-Some.ensures);
+      news = c.in_ok-news.ensures ∙ ap (λ (x : Report). x ∷ []) c.report_held.ensures ∙ ap (λ (r : Row g.row.A.Denot). report_now c.args.step r ∷ []) (found_row s c.args.history.now.entries c.args.tables.now c.requires.stands c.args.step c.in-Some.held.now c.in-Some.ensures);
     }
 
 pub unreachable-requires : goal.unreachable-requires

@@ -1,0 +1,50 @@
+//! The answers to a query from rows.
+
+ghost use Rattle.std.specs.Prelude.{◌≡◌, ◌<◌, ◌≤◌, ◌-◌, ◌+◌, ◌^◌, ◌++◌, [], ◌∷◌, length, OnOk, if◌then◌else◌};
+ghost use Rattle.ups_dataset.specs.Data.{answer};
+ghost use Rattle.ups_rows.specs.Answering.{answers_among, attributes_of_rows};
+
+use crate::shared_row::SharedRow;
+use std::alloc::{AllocError, Allocator};
+use ups_life::Sets;
+use ups_match::{Keys, Matcher};
+
+/// Adds the answer of a row to keys if the row matches them.
+///
+/// Errors: if memory runs out.
+fn add_match<A: Allocator + Copy, M: Matcher>(
+    found: &mut Sets<A>,
+    shared: &SharedRow<A>,
+    keys: &Keys<A>,
+    matcher: &mut M,
+) -> Result<(), AllocError>
+    requires { M.asked matcher.old < 2 ^ 64 - 1 }
+    ensures found { OnOk result (found.new ≡ found.old ++ (if M.says keys.now shared.now.attributes then answer shared.now.attributes keys.now.attributes ∷ [] else [])) }
+    ensures count { M.asked matcher.new ≡ M.asked matcher.old + 1 }
+{
+    let row = shared.get();
+    if matcher.matches(keys, &row.attributes) {
+        found.push(row.attributes.answer(keys.attributes())?)?;
+    }
+    Ok(())
+}
+
+/// Adds the answers to keys of those rows that match them, in their order. The matcher is asked once about each row.
+///
+/// Errors: if memory runs out.
+pub(crate) fn add_matches<A: Allocator + Copy, M: Matcher>(
+    found: &mut Sets<A>,
+    rows: &[SharedRow<A>],
+    keys: &Keys<A>,
+    matcher: &mut M,
+) -> Result<(), AllocError>
+    requires { M.asked matcher.old + length rows.now < 2 ^ 64 }
+    ensures found { OnOk result (found.new ≡ found.old ++ answers_among (M.says keys.now) keys.now.attributes (attributes_of_rows rows.now)) }
+    ensures each { OnOk result (M.asked matcher.new ≡ M.asked matcher.old + length rows.now) }
+    ensures most { M.asked matcher.new ≤ M.asked matcher.old + length rows.now }
+{
+    for shared in rows {
+        add_match(found, shared, keys, matcher)?;
+    }
+    Ok(())
+}
