@@ -3,10 +3,9 @@
 
     trials/board.py [--program PROGRAM [WORD..]] [--steps 200] [--many 10000] [--picture FILE]
 
-It installs what is missing (`apt-get install -y chromium nginx-light openssl python3-pydicom python3-tinycss2 python3-websocket tidy`,
-which needs root), starts a server
-and a board on free ports of this machine, and ends by itself. It prints a line for each trial, and then `N passed, M failed`;
-the exit status is 1 if any failed.
+It installs what is missing (`apt-get install -y chromium nginx-light node-css-tree nodejs openssl python3-html5lib
+python3-pydicom python3-websocket tidy`, which needs root), starts a server and a board on free ports of this machine, and ends by
+itself. It prints a line for each trial, and then `N passed, M failed`; the exit status is 1 if any failed.
 
     lives        three workstations take steps through their lives: created, claimed, progress set, and completed or canceled by
                  the performer or by request. The page must show each state of each step within a second of the server's
@@ -25,7 +24,7 @@ the exit status is 1 if any failed.
                  one gets nothing, and the port is open to this machine alone; no page may have the board in a frame
     a proxy      nginx, as docs/use/operating.md has it: who logs in sees the page, without a token, and nobody else does
     no report    a board to which no report comes says that worklist and reports differ, in red
-    the files    tidy finds no fault in the page, nor tinycss2 in its style
+    the files    tidy and html5lib find no fault in the page, nor css-tree in its style
     the console  has no error
 """
 
@@ -70,6 +69,7 @@ PATIENTS = ("DOE^JANE", "MÜLLER^JÜRGEN", "OKAFOR^ADA", "NOVÁK^PETR", "SILVA^A
 LABELS = ("CT head", "CT thorax", "CT abdomen", "MR knee", "MR spine", "CT angiography")
 WAITING = 7  # steps of try_waiting
 ALL = 900  # seconds for all trials
+NODE, CSS_TREE = "/usr/bin/node", "/usr/share/nodejs/css-tree"
 
 # notes when a card appears in the column of a state
 OBSERVER = """
@@ -495,29 +495,19 @@ def try_no_report(port: int, listen: int, browser: Browser, results: Results) ->
     board.end()
 
 
-def css_faults(text: str) -> list[str]:
-    """Returns what tinycss2 can't read of a style."""
-    import tinycss2
-    faults = []
-    nodes = tinycss2.parse_stylesheet(text, skip_comments=True, skip_whitespace=True)
-    while nodes:
-        node = nodes.pop()
-        if node.type == "error":
-            faults.append(f"line {node.source_line}: {node.message}")
-        elif node.type == "at-rule":
-            nodes += tinycss2.parse_rule_list(node.content or [], skip_comments=True, skip_whitespace=True)
-        elif node.type == "qualified-rule":
-            nodes += tinycss2.parse_declaration_list(node.content, skip_comments=True, skip_whitespace=True)
-    return faults
-
-
 def try_files(results: Results) -> None:
     """Tries the files of the page with what Debian has to check them."""
-    folder = os.path.join(HERE, "client/ups/page")
-    ran = subprocess.run(["tidy", "-e", "-q", os.path.join(folder, "board.html")], capture_output=True, text=True)
+    import html5lib
+    page, style = (os.path.join(HERE, "client/ups/page", it) for it in ("board.html", "board.css"))
+    ran = subprocess.run(["tidy", "-e", "-q", page], capture_output=True, text=True)
     results.tell("tidy, of the page", ran.stderr.strip() or None)
-    with open(os.path.join(folder, "board.css"), encoding="utf-8") as file:
-        results.tell("tinycss2, of its style", "; ".join(css_faults(file.read())) or None)
+    reader = html5lib.HTMLParser()
+    with open(page, encoding="utf-8") as file:
+        reader.parse(file.read())
+    results.tell("html5lib, of the page", "; ".join(f"line {at[0]}: {name}" for at, name, _ in reader.errors) or None)
+    words = [NODE, os.path.join(HERE, "trials/lib/css_faults.js"), style]
+    ran = subprocess.run(words, capture_output=True, text=True, env={**os.environ, "NODE_PATH": "/usr/share/nodejs"})
+    results.tell("css-tree, of its style", (ran.stdout + ran.stderr).strip() or None)
 
 
 def try_waiting(board: Board, browser: Browser, port: int, results: Results) -> None:
@@ -711,8 +701,10 @@ def main() -> None:
     parser.add_argument("--many", type=int, default=10_000, help="steps of a large worklist (10,000; 0 leaves it out)")
     parser.add_argument("--picture", metavar="FILE", help="takes a picture of the page and one in dark colors, and no trial")
     asked = parser.parse_args()
-    install({"chromium": "chromium", "/usr/sbin/nginx": "nginx-light", "openssl": "openssl", "tidy": "tidy"})
-    for module, package in (("websocket", "python3-websocket"), ("tinycss2", "python3-tinycss2")):
+    install({"chromium": "chromium", "/usr/sbin/nginx": "nginx-light", "openssl": "openssl", "tidy": "tidy", NODE: "nodejs"})
+    if not os.path.exists(CSS_TREE):
+        subprocess.run(["apt-get", "install", "-y", "node-css-tree"], check=True, stdout=subprocess.DEVNULL)
+    for module, package in (("websocket", "python3-websocket"), ("html5lib", "python3-html5lib")):
         if not importlib.util.find_spec(module):
             subprocess.run(["apt-get", "install", "-y", package], check=True, stdout=subprocess.DEVNULL)
     signal.signal(signal.SIGALRM, lambda *_: sys.exit(f"board.py: not done in {ALL} seconds"))
