@@ -17,6 +17,9 @@ exit status is 1 if any failed.
                  time and in another character set; a change sets, a cancellation cancels; what is refused is told to the sender, who
                  hears AE while the server is away
     a worklist   of wlmscpfs (DCMTK) is asked for by examples/mwl_steps.py, twice: each entry of today is one step
+    MPPS         of a modality (lib/modality.py, bytes by hand) comes to examples/mpps_steps.py: its step is claimed, and COMPLETED with
+                 what was performed, or CANCELED with the reason; by the worklist's UID, by the study, by the Accession Number; several
+                 at once; twice; of no step, and of another performer's; while the server is away, and over restarts of both
 """
 
 from __future__ import annotations
@@ -36,8 +39,13 @@ import tempfile
 import warnings
 from typing import Any, Iterator, Optional
 
-sys.path.insert(0, os.path.join(os.path.dirname(os.path.dirname(os.path.abspath(__file__))), "check/lib"))
+TOP = os.path.dirname(os.path.dirname(os.path.abspath(__file__)))
+sys.path[:0] = [os.path.join(TOP, it) for it in ("check/lib", "trials/lib")]
+import dicom
+from dicom import IMPLICIT, create, even, get, items
 from machine import HERE, free_port, holds, install, listens
+from modality import Modality, Scheduled, spelled
+from peer import PULL_ON, PUSH_ON, Peer
 from results import Results
 from server import Server
 
@@ -239,7 +247,7 @@ class Orders:
         variables = {"UPS_SERVER": f"127.0.0.1:{server}", "UPS_COMMAND": " ".join(CLIENT), "UPS_AE": "ORDERS"}
         words = [sys.executable, os.path.join(HERE, "examples/hl7_steps.py"), "--port", str(self.port)]
         self.process = subprocess.Popen(words, stdout=subprocess.DEVNULL, env={**os.environ, **variables})
-        holds(lambda: listens(self.port), 20)
+        holds(lambda: listens(self.port), 60)
 
     def send(self, *messages: bytes) -> list[str]:
         """Sends messages over one connection, each after the answer to the last one; returns the codes, with what is told."""
@@ -354,6 +362,212 @@ def try_worklist(results: Results, program: list[str]) -> None:
         start = datetime.datetime.strptime(f"{today}101500", "%Y%m%d%H%M%S").astimezone().strftime("%Y%m%d%H%M%S%z")
         wanted = (["P0", "P1"], 2, {"Alphabetic": "MüLLER^JÜRGEN"}, start, "HIGH", "CT", "CT head native", "CT1", "1.2.3.9.0", "A0")
         results.tell("each entry of today is one step, also the second time", None if told == wanted else f"{told}, and not {wanted}")
+        try_performed_worklist(results, server.port)
+
+
+# what modalities say of their work
+
+class Performed:
+    """examples/mpps_steps.py for a server."""
+
+    def __init__(self, server: int, folder: str) -> None:
+        self.server, self.folder, self.port = server, folder, free_port()
+        self.log = os.path.join(folder, "log")
+        self.begin()
+
+    def begin(self) -> None:
+        words = [sys.executable, os.path.join(HERE, "examples/mpps_steps.py"), "--listen", str(self.port), "--every", "1"]
+        variables = {"UPS_SERVER": f"127.0.0.1:{self.server}", "PYTHONIOENCODING": "utf-8"}
+        with open(self.log, "a", encoding="utf-8") as log:
+            self.process = subprocess.Popen([*words, "--state", os.path.join(self.folder, "state")], stdout=log, stderr=log, env={**os.environ, **variables})
+        holds(lambda: listens(self.port), 60)
+
+    def kill(self) -> None:
+        self.process.kill()
+        self.process.wait()
+
+    def says(self, words: str) -> bool:
+        def found() -> bool:
+            with open(self.log, encoding="utf-8") as log:
+                return words in log.read()
+        return holds(found, 60)
+
+    def file(self, uid: bytes) -> str:
+        return os.path.join(self.folder, "state", f"{uid.decode()}.json")
+
+    def begins(self, uid: bytes, *scheduled: Scheduled, **more: Any) -> int:
+        """Sends an N-CREATE over an association of its own, and returns its status."""
+        modality = Modality(self.port, **({"syntax": more.pop("syntax")} if "syntax" in more else {}))
+        status = modality.begin(uid, *scheduled, **more)
+        modality.release()
+        return status
+
+    def ends(self, uid: bytes, status: bytes, study: str, **more: Any) -> int:
+        modality = Modality(self.port, **({"syntax": more.pop("syntax")} if "syntax" in more else {}))
+        answer = modality.end(uid, status, study, **more)
+        modality.release()
+        return answer
+
+
+@contextlib.contextmanager
+def performed(server: int) -> Iterator[Performed]:
+    with tempfile.TemporaryDirectory() as folder:
+        it = Performed(server, folder)
+        try:
+            yield it
+        finally:
+            it.kill()
+
+
+def step_of(port: int, uid: str) -> dict[str, Any]:
+    return next(iter(steps(port, "-k", f"SOPInstanceUID={uid}")), {})
+
+
+def state_of(port: int, uid: str) -> str:
+    peer = Peer(port)
+    status = peer.ask(get(PULL_ON, 1, uid.encode()))
+    found = re.search(rb"\x74\0\0\x10CS.\0([A-Z ]+?) *(?![A-Z ])", peer.sets[0], re.DOTALL) if peer.sets else None
+    peer.release()
+    return found[1].decode() if found else f"{status:04X}"
+
+
+def becomes(port: int, uid: str, state: str) -> Optional[str]:
+    """Waits until a step has a state, and returns why it has not, or None."""
+    found = holds(lambda: state_of(port, uid) == state, 60)
+    return None if found else f"{uid} is {state_of(port, uid)}, and not {state}"
+
+
+def offset_then() -> str:
+    """Returns the offset of this machine at the moment that the modality names."""
+    return datetime.datetime(2026, 11, 26, 10, 15).astimezone().strftime("%z")
+
+
+def try_performed_worklist(results: Results, port: int) -> None:
+    """Tries MPPS for the steps of a modality worklist: one is done, and one stops."""
+    uids = {first(it, "00100020"): first(it, "00080018") for it in steps(port)}
+    with performed(port) as it:
+        modality = Modality(it.port)
+        results.tell("MPPS: an echo", None if modality.echo() == 0 else "it is not answered")
+        told = modality.begin(b"1.2.7.1", Scheduled("1.2.3.9.0", "S0", "A0")), modality.begin(b"1.2.7.1", Scheduled("1.2.3.9.0", "S0", "A0"))
+        results.tell("MPPS: an N-CREATE, and again", None if told == (0, 0x0111) else str(told))
+        results.tell("MPPS: its step is claimed", becomes(port, uids["P0"], "IN PROGRESS"))
+        told = modality.end(b"1.2.7.1", b"COMPLETED", "1.2.3.9.0"), modality.end(b"1.2.7.1", b"COMPLETED", "1.2.3.9.0")
+        results.tell("MPPS: an N-SET, and again", None if told == (0, 0x0110) else str(told))
+        modality.release()
+        results.tell("MPPS: and completed", becomes(port, uids["P0"], "COMPLETED"))
+        found = first(step_of(port, uids["P0"]), "00741216") or {}
+        output = first(found, "00404033") or {}
+        told = (first(found, "00404028", "00080100"), first(found, "00404028", "00080104"), first(found, "00404050"), first(found, "00404051"),
+                first(output, "0020000D"), first(output, "0020000E"), first(output, "0040E021", "00080054"),
+                [first(each, "00081155") for each in output.get("00081199", {}).get("Value", [])])
+        wanted = ("CT1", "Röhre 1", f"20261126101500{offset_then()}", f"20261126103000{offset_then()}", "1.2.3.9.0", "1.2.3.9.0.1", "ARCHIVE",
+                  ["1.2.3.9.0.1.0", "1.2.3.9.0.1.1"])
+        results.tell("MPPS: with what was performed", None if told == wanted else f"{told}, and not {wanted}")
+        told = it.begins(b"1.2.7.2", Scheduled("1.2.3.9.1", "S1", "A1"), syntax=IMPLICIT)
+        told = told, it.ends(b"1.2.7.2", b"DISCONTINUED", "1.2.3.9.1", reason=b"Incorrect worklist entry selected", syntax=IMPLICIT)
+        results.tell("MPPS: one that stops, in Implicit VR", str(told) if any(told) else becomes(port, uids["P1"], "CANCELED"))
+        found = first(step_of(port, uids["P1"]), "00741002") or {}
+        told = first(found, "00741238"), first(found, "0074100E", "00080100"), first(found, "00404052")
+        wanted = "Incorrect worklist entry selected", "110514", f"20261126103000{offset_then()}"
+        results.tell("MPPS: with the reason", None if told == wanted else f"{told}, and not {wanted}")
+
+
+def schedule(port: int, uid: str, worklist: str, station: str, study: str, accession: str = "") -> None:
+    """Creates a step of a study, for a station or for none."""
+    words = [(0x0008, 0x0050, b"SH", accession.encode()), (0x0020, 0x000D, b"UI", study.encode())]
+    more = {(0x0074, 0x1202): (b"LO", even(worklist.encode(), b" ")), (0x0040, 0xA370): (b"SQ", items([spelled(True, words)])),
+            **({(0x0040, 0x4025): (b"SQ", items([spelled(True, [(0x0008, 0x0100, b"SH", station.encode())])]))} if station else {})}
+    peer = Peer(port)
+    assert peer.ask(create(PUSH_ON, 1, uid.encode(), dicom.step(True, more))) == 0, uid
+    peer.release()
+
+
+def try_performed(results: Results, program: list[str]) -> None:
+    """Tries MPPS for other steps than those of a worklist, and restarts."""
+    with tempfile.TemporaryDirectory() as folder:
+        options = ["--keep", "3600", "--store", os.path.join(folder, "upsd.db")]
+        subprocess.run([*program, "init", options[-1]], check=True)
+        with Server(program, *options) as server, performed(server.port) as it:
+            for number in range(10):
+                place = ("MR", "CT2") if number == 3 else ("CT", "CT1")
+                schedule(server.port, f"1.2.20.{number}", *place, f"1.2.21.{number}", f"A{number}")
+            schedule(server.port, "1.2.20.10", "READS", "", "1.2.21.0")
+            try_found(results, it)
+            try_not_found(results, it)
+            try_restarts(results, it)
+            server.stop()
+            try_manager_away(results, it, program, options)
+
+
+def try_found(results: Results, it: Performed) -> None:
+    told = it.begins(b"1.2.7.10", Scheduled("1.2.21.0")), it.begins(b"1.2.7.11", Scheduled("1.2.99.1", "", "A1"))
+    results.tell("MPPS: by the study, beside a step of another worklist", str(told) if any(told) else becomes(it.server, "1.2.20.0", "IN PROGRESS"))
+    results.tell("MPPS: which is left", becomes(it.server, "1.2.20.10", "SCHEDULED"))
+    results.tell("MPPS: by the Accession Number", becomes(it.server, "1.2.20.1", "IN PROGRESS"))
+    told = it.begins(b"1.2.7.12", Scheduled("1.2.21.4"), Scheduled("1.2.21.5")), it.ends(b"1.2.7.12", b"COMPLETED", "1.2.21.4", images=5_000)
+    faults = [becomes(it.server, uid, "COMPLETED") for uid in ("1.2.20.4", "1.2.20.5")]
+    results.tell("MPPS: two steps at once", str(told) if any(told) else faults[0] or faults[1])
+    output = first(step_of(it.server, "1.2.20.4"), "00741216", "00404033") or {}
+    told = first(output, "0020000E"), first(output, "00081199")
+    results.tell("MPPS: of 5,000 images the series alone", None if told == ("1.2.21.4.1", None) else str(told))
+
+
+def try_not_found(results: Results, it: Performed) -> None:
+    told = it.begins(b"1.2.7.20", Scheduled("1.2.99.2", "", "A99")), it.ends(b"1.2.7.20", b"COMPLETED", "1.2.99.2")
+    results.tell("MPPS: of no step, which stops no modality", str(told) if any(told) else None)
+    results.tell("MPPS: and is told", None if it.says("1.2.7.20, item 1: no steps for the study 1.2.99.2 and the accession number A99") else "it is not")
+    told = it.begins(b"1.2.7.21", Scheduled("1.2.21.3")), it.ends(b"1.2.7.21", b"COMPLETED", "1.2.21.3")
+    results.tell("MPPS: of a step of another station and worklist", str(told) if any(told) else becomes(it.server, "1.2.20.3", "SCHEDULED"))
+    ups(it.server, "claim", "1.2.20.2", "--transaction", "2.25.9")
+    told = it.begins(b"1.2.7.22", Scheduled("1.2.21.2")), it.begins(b"1.2.7.23", Scheduled("1.2.21.1"))
+    results.tell("MPPS: of steps that others hold", str(told) if any(told) else None)
+    told = it.ends(b"1.2.7.23", b"COMPLETED", "1.2.21.1"), it.ends(b"1.2.7.11", b"COMPLETED", "1.2.99.1")
+    results.tell("MPPS: the first one ends it", str(told) if any(told) else becomes(it.server, "1.2.20.1", "COMPLETED"))
+    results.tell("MPPS: and another performer's is left", becomes(it.server, "1.2.20.2", "IN PROGRESS"))
+    later = it.begins(b"1.2.7.24", Scheduled("1.2.21.30"))
+    schedule(it.server, "1.2.20.30", "CT", "", "1.2.21.30")
+    results.tell("MPPS: a step that comes later", str(later) if later else becomes(it.server, "1.2.20.30", "IN PROGRESS"))
+    told = it.ends(b"1.2.7.99", b"COMPLETED", "1.2.3"), it.begins(b"1.2.7.25", Scheduled("1.2.3"), status=b"COMPLETED"), it.begins(b"1.2.7.25", Scheduled("1.2.3"), status=b"")
+    results.tell("MPPS: what is wrong is refused", None if told == (0x0112, 0x0106, 0x0120) else str([f"{status:04X}" for status in told]))
+    results.tell("MPPS: and another title", None if Modality(it.port, called=b"OTHER").kind == 3 else "it is not rejected")
+    stranger = Modality(it.port)
+    stranger.socket.sendall(bytes(range(100)))
+    results.tell("MPPS: what can't be read ends its association alone", None if stranger.pdu()[0] == 7 and it.begins(b"1.2.7.10") == 0x0111 else "no")
+
+
+def try_restarts(results: Results, it: Performed) -> None:
+    """Kills the SCP: between an N-CREATE and an N-SET, and as if it had not noted the answer to a claim."""
+    it.kill()
+    it.begin()
+    told = it.ends(b"1.2.7.10", b"COMPLETED", "1.2.21.0")
+    results.tell("MPPS: a restart keeps the claim", str(told) if told else becomes(it.server, "1.2.20.0", "COMPLETED"))
+    told = it.begins(b"1.2.7.10", Scheduled("1.2.21.0"))
+    results.tell("MPPS: and what was there before", None if told == 0x0111 else str(told))
+    it.begins(b"1.2.7.30", Scheduled("1.2.21.6"))
+    fault = becomes(it.server, "1.2.20.6", "IN PROGRESS")
+    it.kill()
+    with open(it.file(b"1.2.7.30"), encoding="utf-8") as file:
+        said = json.load(file)
+    said["claims"]["0"]["is_held"] = False
+    with open(it.file(b"1.2.7.30"), "w", encoding="utf-8") as file:
+        json.dump(said, file)
+    it.begin()
+    told = it.ends(b"1.2.7.30", b"COMPLETED", "1.2.21.6")
+    results.tell("MPPS: a claim whose answer was lost", fault or (str(told) if told else becomes(it.server, "1.2.20.6", "COMPLETED")))
+    mode = os.stat(it.file(b"1.2.7.30")).st_mode & 0o777
+    results.tell("MPPS: the files are for their owner alone", None if mode == 0o600 else oct(mode))
+
+
+def try_manager_away(results: Results, it: Performed, program: list[str], options: list[str]) -> None:
+    told = it.begins(b"1.2.7.40", Scheduled("1.2.21.7")), it.begins(b"1.2.7.41", Scheduled("1.2.21.8")), it.ends(b"1.2.7.41", b"COMPLETED", "1.2.21.8")
+    results.tell("MPPS: the server is away, and modalities go on", str(told) if any(told) or not it.says("not done yet: ") else None)
+    it.kill()
+    it.begin()
+    with Server(program, *options, port=it.server):
+        holds(lambda: listens(it.server), 60)
+        results.tell("MPPS: then a step is claimed", becomes(it.server, "1.2.20.7", "IN PROGRESS"))
+        results.tell("MPPS: and one is completed", becomes(it.server, "1.2.20.8", "COMPLETED"))
+        results.tell("MPPS: all else is as it was", becomes(it.server, "1.2.20.9", "SCHEDULED"))
 
 
 def main() -> None:
@@ -375,6 +589,7 @@ def main() -> None:
             try_away(results, asked.program, server, orthanc)
     try_orders(results, asked.program)
     try_worklist(results, asked.program)
+    try_performed(results, asked.program)
     results.end("recipes")
 
 

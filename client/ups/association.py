@@ -34,8 +34,8 @@ class Association:
         self.syntax = IMPLICIT if asked.implicit else EXPLICIT
         self.received, self.at = bytearray(), 0
         self.contexts: dict[str, int] = {}
-        self.accepted: set[int] = set()
-        self.longest = LONGEST
+        self.accepted: dict[int, tuple[str, bool]] = {}  # the SOP class of each context, and whether it is in Implicit VR
+        self.longest, self.most = LONGEST, MOST_TAKEN
         self.fragments: Iterator[tuple[int, int, bytes]] = iter(())
         self.numbers = itertools.count(1)
         self.wait_anew()
@@ -131,17 +131,19 @@ class Association:
                 raise Unexpected(f"the presentation context of {each} was not accepted")
             self.implicit = dict(items(results[context][4:])).get(0x40, b"").rstrip(b"\0") == IMPLICIT.encode()
 
-    def accept(self, asked: bytes) -> None:
-        """Accepts each presentation context of UPS Event in this side's transfer syntax, as its SCU, and no other."""
+    def accept(self, asked: bytes, classes: tuple[str, ...] = (EVENT,), syntaxes: tuple[str, ...] = (), roles: bytes = EVENT_ROLE) -> None:
+        """Accepts each presentation context of these SOP classes in the first of these transfer syntaxes (default: that of this side)
+        that it has, and no other; by default those of UPS Event, as its SCU."""
         self.longest = longest_of(asked)
         answers = []
         for content in contexts_of(asked, 0x20):
-            words = list(items(content[4:]))
-            is_event = (0x30, EVENT.encode()) in words and (0x40, self.syntax.encode()) in words
-            if is_event:
-                self.accepted.add(content[0])
-            answers.append(item(0x21, bytes([content[0], 0, 0 if is_event else 3, 0]) + item(0x40, self.syntax.encode())))
-        more = item(0x50, item(0x51, struct.pack(">I", LONGEST)) + item(0x52, IMPLEMENTATION.encode()) + EVENT_ROLE)
+            words = [(kind, uid.rstrip(b"\0").decode("latin-1")) for kind, uid in items(content[4:])]
+            found = [(each, it) for each in classes for it in syntaxes or (self.syntax,) if (0x30, each) in words and (0x40, it) in words]
+            syntax = found[0][1] if found else self.syntax
+            if found:
+                self.accepted[content[0]] = found[0][0], syntax == IMPLICIT
+            answers.append(item(0x21, bytes([content[0], 0, 0 if found else 3, 0]) + item(0x40, syntax.encode())))
+        more = item(0x50, item(0x51, struct.pack(">I", LONGEST)) + item(0x52, IMPLEMENTATION.encode()) + roles)
         self.send_pdu(ASSOCIATE_AC, asked[:68] + item(0x10, APPLICATION_CONTEXT.encode()) + b"".join(answers) + more)
 
     def reject(self, reason: int, why: str) -> NoReturn:
@@ -164,8 +166,8 @@ class Association:
             self.send_pdu(P_DATA_TF, struct.pack(">IBB", len(piece) + 2, context, control | last) + piece)
 
     def part(self, kind_of_part: int) -> Optional[tuple[int, bytes]]:
-        """Receives a command set (1) or a data set (0), MOST_TAKEN bytes at most: the presentation context ID and the bytes; None
-        if the peer releases."""
+        """Receives a command set (1) or a data set (0), `most` bytes at most: the presentation context ID and the bytes; None if the
+        peer releases."""
         whole = bytearray()
         contexts: set[int] = set()
         while True:
@@ -174,8 +176,8 @@ class Association:
                 if control & 1 != kind_of_part or len(contexts) > 1:
                     raise Unexpected("fragments of different messages in one another")
                 whole += piece
-                if len(whole) > MOST_TAKEN:
-                    raise Unexpected(f"a message of more than {MOST_TAKEN:,} bytes")
+                if len(whole) > self.most:
+                    raise Unexpected(f"a message of more than {self.most:,} bytes")
                 if control & 2:
                     return context, bytes(whole)
             kind, body = self.pdu()

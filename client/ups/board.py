@@ -21,7 +21,8 @@ from typing import Any, Optional
 from ups.board_watcher import Watching
 from ups.faults import Refused, why
 from ups.files import content_of
-from ups.reports import listener_of, take_in_threads
+from ups.listening import listener_of
+from ups.reports import take_reports_in_threads
 from ups.views import Part, snapshot
 
 
@@ -164,7 +165,7 @@ def board(asked: argparse.Namespace) -> int:
         with page_server(asked, pages) as server:
             addresses = addresses_of(asked, server.server_port)
             origins.update(addresses)
-            take_in_threads(listener, asked, watching.report)
+            take_reports_in_threads(listener, asked, watching.report)
             threading.Thread(target=watching.ask, daemon=True).start()
             print(f"the board is at {addresses[0]}/{'' if asked.token_file else f'?token={token}'}", flush=True)
             try:

@@ -59,16 +59,27 @@ def as_new(step: Dataset) -> Dataset:
     return step
 
 
-def write_whole(path: str, text: str) -> None:
-    """Writes a file so that a reader sees the old one or the new one. All may read it, as a textfile collector needs."""
+def write_whole(path: str, text: str, mode: int = 0o644) -> None:
+    """Writes a file, synced, so that a reader sees the old one or the new one. By default all may read it, as a textfile collector
+    needs."""
     with tempfile.NamedTemporaryFile("w", dir=os.path.dirname(os.path.abspath(path)), prefix=".ups.", suffix=".tmp",
                                      delete=False) as made_file:
         try:
             made_file.write(text)
             made_file.flush()
-            os.fchmod(made_file.fileno(), 0o644)
+            os.fchmod(made_file.fileno(), mode)
             os.fsync(made_file.fileno())
             os.replace(made_file.name, path)
         except BaseException:
             os.unlink(made_file.name)
             raise
+    sync_folder(os.path.dirname(os.path.abspath(path)))
+
+
+def sync_folder(path: str) -> None:
+    """Syncs the names in a folder."""
+    folder = os.open(path, os.O_RDONLY)
+    try:
+        os.fsync(folder)
+    finally:
+        os.close(folder)

@@ -13,7 +13,7 @@ from ups.association import Association
 from ups.datasets import made
 from ups.moments import moment_now
 from ups.operations import change, get_step, update
-from ups.terms import STATES, is_done
+from ups.terms import STATES, UTF_8, is_done
 
 UNSPECIFIED = {"CodeValue": "110513", "CodingSchemeDesignator": "DCM", "CodeMeaning": "Discontinued for unspecified reason"}
 
@@ -59,6 +59,11 @@ def canceled(step: Dataset, reason: Optional[str]) -> Dataset:
     add_missing(found, {"ProcedureStepCancellationDateTime": moment_now(), **({"ReasonForCancellation": reason} if reason else {}),
                         "ProcedureStepDiscontinuationReasonCodeSequence": [UNSPECIFIED]})
     return in_characters_of(step, "ProcedureStepProgressInformationSequence", found)
+
+
+def text_for(step: Dataset, text: str) -> str:
+    """Returns a text as a step can have it: in ASCII, unless the step is in UTF-8 or names no character set."""
+    return text if step.get("SpecificCharacterSet") in (None, "", UTF_8) else text.encode("ascii", "replace").decode()
 
 
 def in_characters_of(step: Dataset, keyword: str, one: Dataset) -> Dataset:

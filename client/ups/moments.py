@@ -12,6 +12,15 @@ def moment_now() -> str:
     return datetime.datetime.now().astimezone().strftime("%Y%m%d%H%M%S%z")
 
 
+def dt_of_parts(day: str, clock: str, offset: str = "") -> str:
+    """Returns a date and a time (DA, TM) as a DT with this offset, or else that of this machine then; this moment if they are none."""
+    try:
+        moment = datetime.datetime.strptime((day + clock.partition(".")[0]).ljust(14, "0"), "%Y%m%d%H%M%S")
+    except ValueError:
+        return moment_now()
+    return f"{moment:%Y%m%d%H%M%S}{offset if re.fullmatch('[+-][0-9]{4}', offset) else f'{moment.astimezone():%z}'}"
+
+
 DT = re.compile(r"(\d{4})(?:(\d\d)(?:(\d\d)(?:(\d\d)(?:(\d\d)(?:(\d\d)(\.\d{1,6})?)?)?)?)?)?([+-]\d{4})?", re.ASCII)
 
 

@@ -22,13 +22,14 @@ from ups.datasets import made
 from ups.dicom_json import json_line
 from ups.elements import plain, value_at
 from ups.faults import Over, Refused, Unexpected, Unwritable, complain, printable
-from ups.finishing import begun, canceled, completed, end_step, in_characters_of
+from ups.finishing import begun, canceled, completed, end_step, in_characters_of, text_for
+from ups.listening import listener_of
 from ups.moments import moment_of
 from ups.operations import act, change, get_step, matched, update
 from ups.options import environment_of
-from ups.reports import listener_of, take_in_threads
+from ups.reports import take_reports_in_threads
 from ups.terms import (
-    GLOBAL, GONE, PRIORITIES, PRIORITY, PULL, READINESS, SOP_INSTANCE, START, STATES, UTF_8, WATCH, is_done, new_uid, told)
+    GLOBAL, GONE, PRIORITIES, PRIORITY, PULL, READINESS, SOP_INSTANCE, START, STATES, WATCH, is_done, new_uid, told)
 
 TAKEN = (0xC300, 0xC302, GONE)  # another performer was quicker, or the step was canceled
 NO_STEP = 3  # the exit status of `work` if there is nothing to do
@@ -149,7 +150,7 @@ class Performer:
         """Takes reports from now on, if a port is given; subscriptions of an earlier performer of this title are ended."""
         if self.asked.listen is None:
             return
-        take_in_threads(listener_of(self.asked), self.asked, lambda _, command, data: self.report(command, data))
+        take_reports_in_threads(listener_of(self.asked), self.asked, lambda _, command, data: self.report(command, data))
         if not is_done(status := self.subscribe(4, GLOBAL)):
             raise Refused(f"as a watcher: {told(status)}")
 
@@ -200,8 +201,7 @@ class Performer:
     def finish(self, held: Claimed, why: str) -> int:
         """Completes a step, or cancels it for a reason; tries again while the server is not there."""
         station, begin = self.asked.as_station or self.asked.ae, time.monotonic()
-        reason = why if held.step.get("SpecificCharacterSet") in (None, "", UTF_8) else why.encode("ascii", "replace").decode()
-        needed = functools.partial(canceled, reason=reason) if why else functools.partial(completed, station=station)
+        needed = functools.partial(canceled, reason=text_for(held.step, why)) if why else functools.partial(completed, station=station)
         while True:
             try:
                 with associated(self.asked, [PULL]) as association:

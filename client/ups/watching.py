@@ -20,7 +20,8 @@ from ups.dicom_json import json_of
 from ups.faults import Refused, complain, printable
 from ups.moments import moment_now
 from ups.pdus import EVENT_ROLE
-from ups.reports import connections, listener_of, take_association
+from ups.reports import take_reports
+from ups.listening import connections, listener_of, take_association
 from ups.terms import EVENT, EVENTS, EXPLICIT, GLOBAL, IMPLICIT, PUSH, is_done, told
 
 
@@ -71,11 +72,11 @@ def tell_report(asked: argparse.Namespace, command: Dataset, data: Optional[byte
 def watch(asked: argparse.Namespace) -> int:
     """Prints the reports to a watcher, until it is interrupted, or until as many associations as `--associations` says were
     released."""
-    tell, released = functools.partial(tell_report, asked), 0
+    take, released = functools.partial(take_reports, asked=asked, tell=functools.partial(tell_report, asked)), 0
     with listener_of(asked) as listener:
         print(f"{asked.ae} takes reports on {asked.address}:{listener.getsockname()[1]}", file=asked.aside, flush=True)
         for connection, where in connections(listener, asked):
-            released += take_association(asked, connection, where, tell)
+            released += take_association(asked, connection, where, take)
             if 0 < asked.associations <= released:
                 break
     return 0
