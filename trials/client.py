@@ -48,6 +48,7 @@ import sys
 import tempfile
 import threading
 import time
+import urllib.error
 import urllib.request
 import warnings
 from typing import Any, Optional
@@ -849,6 +850,37 @@ def try_board(results: Results, program: list[str]) -> None:
         traces = [line for line in board.error if "Traceback" in line or "Exception" in line]
         ended = board.end()
         results.tell("the board ends at an interrupt", None if ended == 130 and not traces else f"with {ended} {traces}")
+    try_board_elsewhere(results, program)
+
+
+def try_board_elsewhere(results: Results, program: list[str]) -> None:
+    """Tries a board on another address of this machine, which asks so seldom that its association is silent for longer than the server
+    waits."""
+    listen, port, token = free_port(), free_port(), "a-token-of-a-trial"
+    with Server(program, "--idle", "25", f"BOARD=127.0.0.1:{listen}") as server:
+        words = ["--port", str(port), "--bind", "127.0.0.2", "--origin", f"http://127.0.0.2:{port}", "--every", "100"]
+        os.environ["UPS_TOKEN"] = token
+        board = Listening("board", *words, "--server-port", str(server.port), "--ae", "BOARD", "--listen", str(listen))
+        del os.environ["UPS_TOKEN"]
+        is_there = board.says(f"the board is at http://127.0.0.2:{port}/")
+        codes = []
+        for host in (f"127.0.0.2:{port}", f"127.0.0.3:{port}"):
+            request = urllib.request.Request(f"http://127.0.0.2:{port}/state?token={token}", headers={"Host": host})
+            try:
+                with urllib.request.urlopen(request, timeout=LIMIT) as found:
+                    codes.append(found.status)
+            except urllib.error.HTTPError as refused:
+                codes.append(refused.code)
+        results.tell("the board of another address", None if is_there and codes == [200, 403] else f"{board.out}, {codes}")
+
+        def trouble() -> str:
+            with urllib.request.urlopen(f"http://127.0.0.2:{port}/state?token={token}", timeout=LIMIT) as found:
+                return str(json.load(found)["trouble"])
+
+        holds(lambda: not trouble(), LIMIT)
+        troubled = holds(trouble, 30)
+        results.tell("and a silence of the board ends no association", trouble() if troubled else None)
+        board.end()
 
 
 # words that are wrong, with the exit status and what is told; none has a server

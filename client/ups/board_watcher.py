@@ -15,9 +15,11 @@ from ups.association import Association, associated
 from ups.datasets import made
 from ups.elements import plain, value_at
 from ups.faults import Refused
-from ups.operations import FIND, act, get_step
-from ups.terms import GLOBAL, PULL, SOP_INSTANCE, WATCH, is_done, told
+from ups.operations import FIND, act, echo, get_step
+from ups.terms import GLOBAL, PULL, SOP_INSTANCE, VERIFICATION, WATCH, is_done, told
 from ups.worklist import ROW, Worklist
+
+QUIET = 20  # seconds of silence before an echo: a server ends an association that asks nothing for long
 
 
 def attributes_shown(found: Dataset, deep: int = 0) -> Iterator[dict[str, Any]]:
@@ -118,10 +120,12 @@ class Watching:
         self.tell_subscription()
         while True:
             wait = self.due - time.monotonic()
-            named = self.named(max(0.01, wait))
+            named = self.named(max(0.01, min(wait, QUIET)))
             if "" in named:
                 return
-            if len(named) * self.one > self.worklist.took or wait <= 0 and (not named or wait < -30):
+            if not named and wait > QUIET:
+                echo(association)
+            elif len(named) * self.one > self.worklist.took or wait <= 0 and (not named or wait < -30):
                 self.ask_for_all(association)
             else:
                 for uid in named:
@@ -131,7 +135,7 @@ class Watching:
         """Keeps an association with the server; after it ends, a new one queries all steps and subscribes again."""
         while True:
             try:
-                with associated(self.asked, [WATCH, PULL]) as association:
+                with associated(self.asked, [WATCH, PULL, VERIFICATION]) as association:
                     self.work(association)
             except (OSError, Refused) as fault:
                 self.worklist.say(f"The server does not answer: {fault}.")

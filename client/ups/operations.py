@@ -12,9 +12,13 @@ from ups.attributes import attributes_of
 from ups.datasets import made
 from ups.elements import plain, value_at
 from ups.messages import number_of_command
-from ups.terms import PULL, PUSH, SOP_INSTANCE, is_done
+from ups.terms import PULL, PUSH, SOP_INSTANCE, VERIFICATION, is_done
 
 FIND = {"AffectedSOPClassUID": PULL, "CommandField": 0x0020, "Priority": 0}  # the command set of a C-FIND-RQ
+
+
+def echo(association: Association) -> int:
+    return association.status_of(VERIFICATION, {"AffectedSOPClassUID": VERIFICATION, "CommandField": 0x0030})
 
 
 def create_step(association: Association, uid: str, step: Dataset) -> int:

@@ -11,6 +11,7 @@ from pydicom.datadict import keyword_for_tag
 from pydicom.dataelem import DataElement
 from pydicom.dataset import Dataset
 
+from ups import operations
 from ups.association import Association, associated
 from ups.datasets import read
 from ups.dicom_json import as_json, json_line
@@ -18,7 +19,7 @@ from ups.faults import Unwritable
 from ups.operations import get_step, matched
 from ups.tables import is_for_people, table
 from ups.terms import (
-    CHARACTER_SET, LABEL, PATIENT, PATIENT_ID, PRIORITY, PULL, SOP_INSTANCE, START, STATE, VERIFICATION, is_done, told)
+    CHARACTER_SET, LABEL, PATIENT, PATIENT_ID, PRIORITY, PULL, SOP_INSTANCE, START, STATE, is_done, told)
 
 # what `find` shows besides the keys that it is given
 COLUMNS = ("PatientName", "PatientID", "ScheduledProcedureStepStartDateTime", "ProcedureStepState",
@@ -29,7 +30,7 @@ HEADINGS = {SOP_INSTANCE: "STEP", PATIENT: "PATIENT", PATIENT_ID: "PATIENT ID", 
 
 
 def echo(association: Association, _: argparse.Namespace) -> int:
-    return association.status_of(VERIFICATION, {"AffectedSOPClassUID": VERIFICATION, "CommandField": 0x0030})
+    return operations.echo(association)
 
 
 def shown(element: DataElement) -> str:

@@ -20,11 +20,12 @@ function clock(seconds) {
 }
 function since(seconds) { return seconds ? clock(seconds) : "before " + clock(began); }
 function age(seconds) { return span(Date.now() / 1000 - seconds); }
-function span(seconds) {
+function span(seconds) {  /* with spaces at which no line breaks */
   const whole = Math.max(0, Math.floor(seconds)), minutes = Math.floor(whole / 60), hours = Math.floor(minutes / 60);
-  if (whole < 60) return whole + " s";
-  if (minutes < 60) return minutes + " min";
-  return hours < 48 ? `${hours} h` + (minutes % 60 ? ` ${minutes % 60} min` : "") : `${Math.floor(hours / 24)} d ${hours % 24} h`;
+  if (whole < 60) return whole + "\u00a0s";
+  if (minutes < 60) return minutes + "\u00a0min";
+  return hours < 48 ? `${hours}\u00a0h` + (minutes % 60 ? `\u00a0${minutes % 60}\u00a0min` : "")
+    : `${Math.floor(hours / 24)}\u00a0d\u00a0${hours % 24}\u00a0h`;
 }
 function startOf(row) {  /* a DT, as 20240229120000+0100, in the time of this browser; without hours, its day */
   const [, year, month, day, hour] = row.start.match(/^(\d{4})(\d\d)?(\d\d)?(\d\d)?/) || [];
@@ -230,7 +231,7 @@ function heldText(step) {
 }
 function showStep(step) {
   put(at("d-label"), step.row ? step.row.label : "A step");
-  put(at("d-patient"), step.row ? patientOf(step.row) + bornOf(step.row).replace(/^ /, "  \u00b7  ") : "");
+  put(at("d-patient"), step.row ? patientOf(step.row) + bornOf(step.row).replace(" born ", "  \u00b7  born\u00a0") : "");
   put(at("d-uid"), step.uid);
   put(at("held"), heldText(step));
   const told = step.told, row = step.row || {state: "", readiness: ""};
