@@ -11,6 +11,7 @@ itself. It prints a line for each trial, and then `N passed, M failed`; the exit
                  the performer or by request. The page must show each state of each step within a second of the server's
                  answer; in the end both tellings, of queries and of reports, have the states that the workstations gave
     a step       the page shows the attributes of a chosen step, who holds it, and its reports in their order
+    a reader     of the screen is told the name of each control, list and mark, and what is a status and an alert
     a search     part of a patient's name leaves that patient's steps
     an event 4   `ups announce` is shown, and makes the board subscribe again
     a restart    the server is stopped: the page says so; it is started again, and both tellings agree on what it holds
@@ -377,6 +378,16 @@ def try_order(board: Board, browser: Browser, port: int, results: Results) -> No
     browser.go(board.address, "document.querySelectorAll('.card').length > 4", 20)
 
 
+def try_reader(browser: Browser, results: Results) -> None:
+    """Tries what a screen reader is told: a name for each of these roles."""
+    named = ("button", "searchbox", "combobox", "image", "img", "list")
+    told = [(it["role"]["value"], it.get("name", {}).get("value", "").strip()) for it in browser.ask("Accessibility.getFullAXTree")["nodes"]
+            if not it.get("ignored")]
+    nameless = [role for role, name in told if role in named and not name]
+    lacks = [role for role in ("button", "searchbox", "combobox", "list", "status", "search") if role not in [it for it, _ in told]]
+    results.tell("a screen reader is told what each control is", f"without a name {nameless}, not there {lacks}" if nameless or lacks else None)
+
+
 def try_search(browser: Browser, results: Results) -> None:
     type_in = "const it = document.getElementById('find'); it.value = '{}'; it.dispatchEvent(new Event('input')); 0"
     patients = "[...new Set([...document.querySelectorAll('.card .patient')].map(each => each.textContent))]"
@@ -522,14 +533,15 @@ def try_waiting(board: Board, browser: Browser, port: int, results: Results) -> 
     requests += [stock.create("1.2.6.8", ScheduledProcedureStepStartDateTime="2020", InputReadinessState="INCOMPLETE"),
                  stock.move(uids[0], "IN PROGRESS"), stock.change(uids[0], **stock.OWN, **begun)]
     statuses = [wire.ask(*request)[-1][0].Status for request in requests]
-    texts = "[...document.querySelectorAll('#longest button')].map(each => each.textContent)"
+    plain = "textContent.replaceAll('\\u00a0', ' ')"  # a duration has no spaces at which a line breaks
+    texts = f"[...document.querySelectorAll('#longest button')].map(each => each.{plain})"
     wanted = ["25 h: wait 1", "1 h 1 min: wait 5", "10 min: wait 2", "1 min: wait 4"]
     found = not any(statuses) and holds(lambda: [it.partition(",")[0] for it in browser.run(texts)][:4] == wanted, 10)
     results.tell("the page names the steps that wait longest", None if found else f"{statuses}, {browser.run(texts)}")
-    claim = f"document.querySelector('[data-uid=\"{uids[0]}\"] .where').textContent"
+    claim = f"document.querySelector('[data-uid=\"{uids[0]}\"] .where').{plain}"
     found = holds(lambda: (browser.run(claim) or "").endswith(", 2 h 5 min"), 10)
     results.tell("and the age of a claim", None if found else f"it says {browser.run(claim)!r}")
-    old = "[...document.querySelectorAll('#old button')].map(each => each.textContent)"
+    old = f"[...document.querySelectorAll('#old button')].map(each => each.{plain})"
     found = holds(lambda: (browser.run(old) or [""])[0].startswith("2 h 5 min: wait 0"), 10) and len(browser.run(old)) == 1
     results.tell("and a claim that is old", None if found else str(browser.run(old)))
     browser.run("document.querySelector('#longest button').click()")
@@ -672,6 +684,7 @@ def try_all(asked: argparse.Namespace, browser: Browser, results: Results) -> No
         stations = try_lives(board, browser, port, asked.steps, results)
         try_step(browser, next(uid for uid, state in stations[0].final.items() if state == "COMPLETED"), results)
         try_day(board, stations, results)
+        try_reader(browser, results)
         try_search(browser, results)
         try_elsewhere(board, results)
         try_waiting(board, browser, port, results)

@@ -1,13 +1,13 @@
 #!/usr/bin/env python3
 """Tries a hospital's day: orders and studies become steps, four performers do them, and the server is killed in the middle.
 
-    trials/hospital.py [PROGRAM [WORD..]] [--orders 200] [--away 5]      (crates/upsd/out/upsd, which `rt run` builds)
+    trials/hospital.py [PROGRAM [WORD..]] [--orders 200] [--senders 2] [--away 5]      (crates/upsd/out/upsd, which `rt run` builds)
 
 It installs what is missing (`apt-get install -y dcmtk orthanc orthanc-python python3-hl7 python3-pydicom`, which needs root), starts a
 server on a store, examples/hl7_steps.py, Orthanc with examples/orthanc_steps.py, four performers (`ups work`) and a watcher (`ups
 watch`) on free ports of this machine, and ends by itself.
 
-    orders       two order systems send them, each the next one after the answer to the last; what is answered with AE, as while the
+    orders       order systems (two) send them, each the next one after the answer to the last; what is answered with AE, as while the
                  server is away, is sent again, and some are sent twice
     studies      one becomes stable in Orthanc at the beginning, and one while the server is away
     the middle   once half of the steps are done the server is killed, and some seconds later started again on its store
@@ -40,7 +40,6 @@ from server import Server
 
 ALL = 3_000  # seconds for all trials
 PERFORMERS = 4
-SENDERS = 2
 KEEP = ["--keep", "86400", "--audit"]
 
 
@@ -122,7 +121,7 @@ def try_day(results: Results, asked: argparse.Namespace, folder: str) -> None:
     subscribed = subprocess.run([*CLIENT, "subscribe", "--port", str(server.port), "--receiver", "WATCH1"], capture_output=True, text=True)
     results.tell("a watcher subscribes", None if subscribed.returncode == 0 else subscribed.stderr)
     orders, department = Orders(server.port), Department(server.port, listen, folder)
-    share = -(-asked.orders // SENDERS)
+    share = -(-asked.orders // asked.senders)
     senders = [Sending(orders, range(at, min(at + share, asked.orders))) for at in range(0, asked.orders, share)]
     begun = time.monotonic()
     with running(server.port) as orthanc, contextlib.ExitStack() as stack:
@@ -177,6 +176,7 @@ def main() -> None:
     parser.add_argument("program", nargs="*", default=[os.path.join(HERE, "crates/upsd/out/upsd")],
                         help="the program, and words before those of `serve` (crates/upsd/out/upsd, which `rt run` builds)")
     parser.add_argument("--orders", type=int, default=200, help="how many orders (200)")
+    parser.add_argument("--senders", type=int, default=2, help="how many order systems (2)")
     parser.add_argument("--away", type=float, default=5, help="seconds for which the server is away (5)")
     asked = parser.parse_args()
     install({ORTHANC: "orthanc", "storescu": "dcmtk", **({} if os.path.exists(PLUGIN) else {PLUGIN: "orthanc-python"})})
