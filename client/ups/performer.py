@@ -199,7 +199,7 @@ class Performer:
         return (self.request or f"{os.path.basename(words[0])} ended with {status}") if status else ""
 
     def finish(self, held: Claimed, why: str) -> int:
-        """Completes a step, or cancels it for a reason; tries again while the server is not there."""
+        """Completes a step, or cancels it for a reason; tries again while the server is not there, with --every until it is."""
         station, begin = self.asked.as_station or self.asked.ae, time.monotonic()
         needed = functools.partial(canceled, reason=text_for(held.step, why)) if why else functools.partial(completed, station=station)
         while True:
@@ -207,7 +207,8 @@ class Performer:
                 with associated(self.asked, [PULL]) as association:
                     return end_step(association, held.uid, held.transaction, needed, STATES[3 if why else 2])
             except (OSError, Refused) as fault:
-                if time.monotonic() - begin > self.asked.timeout:
+                goes_on = self.asked.every is not None and not self.stopped.is_set() and isinstance(fault, (OSError, Over))
+                if not goes_on and time.monotonic() - begin > self.asked.timeout:
                     raise Refused(f"{held.uid}, claimed with {held.transaction}, was not finished: {fault}") from None
                 time.sleep(1)
 
