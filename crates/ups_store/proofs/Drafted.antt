@@ -1,5 +1,5 @@
 -- The draft between two calls.
-use Rattle.std.proofs.Common.{◌≡◌, ◌≢◌, ℕ, ◌-◌, Bool, true, false, if◌then◌else◌, List, [], ◌++◌, ◌+◌, length, map, take, ◌<◌, Option, Result, OnOk, OnErr, IsTrue, inl, inr, refl, sym, ap, subst, ◌∙◌, arith}
+use Rattle.std.proofs.Common.{◌≡◌, ◌≢◌, ℕ, ◌-◌, Bool, true, false, if◌then◌else◌, List, [], ◌++◌, ◌+◌, length, map, take, ◌<◌, Option, IsTrue, inl, inr, refl, sym, ap, subst, ◌∙◌, arith}
 use Rattle.sqlite_value.specs.Order.{Row}
 use Rattle.sqlite_trees.specs.Objects.{catalog_tree}
 use Rattle.sqlite_trees.specs.Tree.{Trees}
@@ -8,17 +8,16 @@ use Rattle.sqlite_trees.specs.declared.store.Shape.TheVariants.{Table}
 use Rattle.sqlite_trees.specs.declared.error.StoreError.{StoreError}
 use Rattle.sqlite_trees.specs.declared.error.StoreError.TheVariants.{OutOfMemory, Io, Corrupt, Full, Broken, Unstorable}
 use Rattle.ups_store.specs.Faults.{Reasons, HasReason, store_fault_of}
-use Rattle.sqlite_trees.specs.View.{View, HasCause, IsClean, KeepsSchema, KeepsCommitted, IsRolledBack, Commits}
+use Rattle.sqlite_trees.specs.View.{View, HasCause, IsClean, KeepsSchema, IsRolledBack, Commits}
 use Rattle.ups_store.specs.Rows.{table_listed, spare_listed, table_in, spare_in, requests_in_tree, requests_in, drafts_in, request_in, IsNumbered}
 use Rattle.ups_store.specs.Held.{Adds, Holds, HoldsIfOpen, HasDraft, HoldsDraft, LeavesOthers}
-use Rattle.ups_store.proofs.Tables.{IsLow, low_from, requests_at, numbered_at}
+use Rattle.ups_store.proofs.Tables.{IsLow, low_from, low_not_runs, table_beside, requests_at, numbered_at}
 use Rattle.ups_store.specs.Upgrading.{ListsAnew, KeepsLastCommit}
-use Rattle.ups_store.proofs.Begun.{either}
 use Rattle.ups_store.proofs.Relisted.{undone, rows_added, there}
 use Rattle.std.proofs.lemmas.List.{take-map, length-map}
 use Rattle.ups_store.specs.declared.request.StoredRequest.{StoredRequest}
 use Rattle.ups_store.specs.Drafting.{Cuts}
-use Rattle.ups_store.proofs.Steps.{adding_as, undoes, held_undone, held_committed, open_clean, sound_open}
+use Rattle.ups_store.proofs.Steps.{adding_as, held_committed}
 
 -- the other one of the trees 0 and 2
 pub low_other : (t : ℕ) → IsLow t → IsLow (2 - t)
@@ -61,33 +60,10 @@ draft_as old new t n h shape rows sound = record {
   adding = record { sound = sound; numbered = subst IsNumbered (sym rows) h.adding.numbered; counted = ap length rows ∙ h.adding.counted };
 }
 
--- a rollback leaves the draft
-pub draft_undone : (old mid new : View) (t count : ℕ) (drafted : Option ℕ) → HoldsIfOpen old t count → HoldsDraft old t drafted → (new.is_clean ≡ false → new.is_open ≡ false) → KeepsCommitted old mid → KeepsSchema old mid → IsRolledBack mid new → HoldsDraft new t drafted
-draft_undone old mid new t count drafted held draft shut kept schema back =
-    λ n is up.
-    let clean = open_clean new shut up in
-    let k = back.kept clean in
-    let both = undoes old mid new clean kept back up in
-    let h = held both.0 in
-    let tables = h.has.tables in
-    let shape : new.shape ≡ mid.shape = back.shape (schema.shape ∙ sym tables.alike ∙ sym schema.committed_shape) in
-    let trees : new.trees ≡ old.trees = (back.undone up).0 ∙ kept.committed (k.was_open up) ∙ sym h.same in
-    draft_as old new t n (draft n is both.0) (ap (λ (f : ℕ → Shape). f (2 - t)) (shape ∙ schema.shape)) (ap (λ (db : Trees). db (2 - t)) trees) (back.undone up).1
-
 -- a commit of other trees leaves it
-pub draft_committed : (old mid new : View) (t count : ℕ) (drafted : Option ℕ) → HoldsIfOpen old t count → HoldsDraft old t drafted → (new.is_clean ≡ false → new.is_open ≡ false) → KeepsCommitted old mid → KeepsSchema old mid → (mid.is_open ≡ false → IsTrue mid.is_broken) → (Holds old t count → IsClean new → mid.trees (2 - t) ≡ old.trees (2 - t)) → (IsClean new → Commits mid new) → HoldsDraft new t drafted
-draft_committed old mid new t count drafted held draft shut kept schema broken rows done =
-    λ n is up.
-    let clean = open_clean new shut up in
-    let d = done clean in
-    let was = kept.was_open (sound_open mid broken d.sound) in
-    draft_as old new t n (draft n is was) (ap (λ (v : View). v.shape (2 - t)) d.is ∙ ap (λ (f : ℕ → Shape). f (2 - t)) schema.shape) (ap (λ (v : View). v.trees (2 - t)) d.is ∙ rows (held was) clean) (ap (λ (v : View). v.is_broken) d.is ∙ d.sound)
-
--- a transaction that writes one tree of others, whether it is committed or not
-pub draft_beside : {T E : Type 0} (r : Result T E) (old mid new : View) (t count : ℕ) (drafted : Option ℕ) → HoldsIfOpen old t count → HoldsDraft old t drafted → (new.is_clean ≡ false → new.is_open ≡ false) → KeepsCommitted old mid → KeepsSchema old mid → (mid.is_open ≡ false → IsTrue mid.is_broken)
-    → (Holds old t count → IsClean new → mid.trees (2 - t) ≡ old.trees (2 - t)) → OnOk r (IsClean new → Commits mid new) → OnErr r (IsRolledBack mid new) → HoldsDraft new t drafted
-draft_beside r old mid new t count drafted held draft shut kept schema broken rows ok err =
-    either r (λ done. draft_committed old mid new t count drafted held draft shut kept schema broken rows done) ok (λ back. draft_undone old mid new t count drafted held draft shut kept schema back) err
+pub draft_stays : (old mid new : View) (t n : ℕ) → HasDraft old t n → KeepsSchema old mid → mid.trees (2 - t) ≡ old.trees (2 - t) → Commits mid new → HasDraft new t n
+draft_stays old mid new t n has schema rows done =
+    draft_as old new t n has (ap (λ (v : View). v.shape (2 - t)) done.is ∙ ap (λ (f : ℕ → Shape). f (2 - t)) schema.shape) (ap (λ (v : View). v.trees (2 - t)) done.is ∙ rows) (ap (λ (v : View). v.is_broken) done.is ∙ done.sound)
 
 -- a step that leaves what the store shows leaves it
 pub draft_same : (old new : View) (t : ℕ) (drafted : Option ℕ) → (IsTrue new.is_open → new ≡ old) → HoldsDraft old t drafted → HoldsDraft new t drafted
@@ -112,11 +88,10 @@ draft_listed old mid new t count n h has lists done =
     let shape : mid.shape (2 - t) ≡ old.shape (2 - t) = lists.adds.shapes (2 - t) (there (old.shape (2 - t)) has.shaped) in
     draft_as old new t n has (ap (λ (v : View). v.shape (2 - t)) done.is ∙ shape) (ap (λ (v : View). v.trees (2 - t)) done.is ∙ rows) (ap (λ (v : View). v.is_broken) done.is ∙ done.sound)
 
--- a transaction leaves the requests, the runs and the tree that counts
+-- a transaction leaves the requests, and the tree that they are in
 pub record StandsBeside (old mid : View) (t : ℕ) : Type 0 where
   pub tabled : table_in mid.trees ≡ t
   pub rows : mid.trees t ≡ old.trees t
-  pub runs : mid.trees 1 ≡ old.trees 1
 
 pub stands_beside : (old mid : View) (t s : ℕ) → table_in old.trees ≡ t → s ≡ 2 - t → LeavesOthers old mid s → StandsBeside old mid t
 stands_beside old mid t s tabled is others =
@@ -124,44 +99,34 @@ stands_beside old mid t s tabled is others =
     record {
       tabled = ap table_listed (others catalog_tree (λ e. other_not_catalog t low (e ∙ is))) ∙ tabled;
       rows = others t (λ e. not_other t low (e ∙ is));
-      runs = others 1 (λ e. other_not_runs t low (e ∙ is));
     }
 
--- the requests are held, whether it is committed or not
-pub held_beside : {T E : Type 0} (r : Result T E) (old mid new : View) (t count : ℕ) → HoldsIfOpen old t count → IsClean new → (mid.is_open ≡ false → IsTrue mid.is_broken) → KeepsCommitted old mid → KeepsSchema old mid → (Holds old t count → StandsBeside old mid t)
-    → OnOk r (IsClean new → Commits mid new) → OnErr r (IsRolledBack mid new) → IsTrue new.is_open → Holds new t count
-held_beside r old mid new t count held clean broken kept schema stands ok err up =
-    either r
-    (λ done.
-    let d = done clean in
-    let was = kept.was_open (sound_open mid broken d.sound) in
-    let h = held was in
-    let s = stands h in
-    held_committed old mid new t count count held was schema (s.tabled ∙ sym h.tabled) (record { sound = d.sound; numbered = subst IsNumbered (sym s.rows) h.adding.numbered; counted = ap length s.rows ∙ h.adding.counted }) d) ok
-    (λ back. held_undone old mid new t count held clean kept schema back up) err
+pub stands_run : (old mid : View) (t : ℕ) → table_in old.trees ≡ t → LeavesOthers old mid 1 → StandsBeside old mid t
+stands_run old mid t tabled others = record { tabled = table_beside old mid others ∙ tabled; rows = others t (low_not_runs t (low_from _ t tabled)) }
+
+-- the requests are held once it is committed
+pub held_stands : (old mid new : View) (t count : ℕ) → IsTrue old.is_open → Holds old t count → KeepsSchema old mid → StandsBeside old mid t → Commits mid new → Holds new t count
+held_stands old mid new t count up h schema s done =
+    held_committed old mid new t count count (λ _. h) up schema (s.tabled ∙ sym h.tabled) (record { sound = done.sound; numbered = subst IsNumbered (sym s.rows) h.adding.numbered; counted = ap length s.rows ∙ h.adding.counted }) done
 
 pub requests_beside : (old mid new : View) (t count : ℕ) → Holds old t count → StandsBeside old mid t → Commits mid new → requests_in new.committed ≡ requests_in old.committed
 requests_beside old mid new t count h stands done =
     ap (λ (v : View). requests_in v.committed) done.is ∙ requests_at mid.trees t stands.tabled ∙ ap (map request_in) stands.rows ∙ sym (requests_at old.trees t h.tabled) ∙ ap requests_in h.same
 
-pub runs_beside : (old mid new : View) (t count : ℕ) → Holds old t count → StandsBeside old mid t → Commits mid new → new.committed 1 ≡ old.committed 1
-runs_beside old mid new t count h stands done = ap (λ (v : View). v.committed 1) done.is ∙ stands.runs ∙ ap (λ (db : Trees). db 1) h.same
+pub runs_beside : (old mid new : View) (t count : ℕ) → Holds old t count → mid.trees 1 ≡ old.trees 1 → Commits mid new → new.committed 1 ≡ old.committed 1
+runs_beside old mid new t count h runs done = ap (λ (v : View). v.committed 1) done.is ∙ runs ∙ ap (λ (db : Trees). db 1) h.same
 
 -- the draft that is committed
 pub drafts_beside : (old mid new : View) (t count : ℕ) → Holds old t count → StandsBeside old mid t → Commits mid new → (drafts_in new.committed ≡ requests_in_tree mid.trees (2 - t)) × (requests_in_tree old.trees (2 - t) ≡ drafts_in old.committed)
 drafts_beside old mid new t count h stands done =
     (ap (λ (v : View). drafts_in v.committed) done.is ∙ drafts_at mid.trees t stands.tabled, sym (drafts_at old.trees t h.tabled) ∙ ap drafts_in h.same)
 
--- what a transaction that is sound would commit
-pub would_stand : (old mid : View) (t count : ℕ) → HoldsIfOpen old t count → (mid.is_clean ≡ false → mid.is_open ≡ false) → (mid.is_open ≡ false → IsTrue mid.is_broken) → KeepsCommitted old mid → (IsClean mid → Holds old t count → StandsBeside old mid t) → mid.is_broken ≡ false
-    → (requests_in mid.trees ≡ requests_in old.committed) × IsNumbered (mid.trees (table_in mid.trees))
-would_stand old mid t count held shut broken kept stands sound =
-    let up = sound_open mid broken sound in
-    let h = held (kept.was_open up) in
-    let s = stands (open_clean mid shut up) h in (
-      requests_at mid.trees t s.tabled ∙ ap (map request_in) s.rows ∙ sym (requests_at old.trees t h.tabled) ∙ ap requests_in h.same,
-      numbered_at mid.trees t s.tabled (subst IsNumbered (sym s.rows) h.adding.numbered),
-    )
+-- what it would commit
+pub says_beside : (old mid : View) (t count : ℕ) → Holds old t count → StandsBeside old mid t → (requests_in mid.trees ≡ requests_in old.committed) × IsNumbered (mid.trees (table_in mid.trees))
+says_beside old mid t count h s = (
+  requests_at mid.trees t s.tabled ∙ ap (map request_in) s.rows ∙ sym (requests_at old.trees t h.tabled) ∙ ap requests_in h.same,
+  numbered_at mid.trees t s.tabled (subst IsNumbered (sym s.rows) h.adding.numbered),
+)
 
 -- the draft once its last requests are deleted
 pub drafts_cut : (old mid new : View) (t count most : ℕ) (none : Bool) → Holds old t count → Cuts old mid (2 - t) most none → Commits mid new → drafts_in new.committed ≡ take (length (drafts_in old.committed) - most) (drafts_in old.committed)
@@ -171,6 +136,9 @@ drafts_cut old mid new t count most none h cut done =
     let before = requests_in_tree old.trees s in
     let is : requests_in_tree mid.trees s ≡ take (length before - most) before = ap (map request_in) cut.rows ∙ sym (take-map request_in (length (old.trees s) - most) (old.trees s)) ∙ ap (λ (n : ℕ). take (n - most) before) (sym (length-map (old.trees s) request_in)) in
     both.0 ∙ is ∙ ap (λ (rs : List StoredRequest). take (length rs - most) rs) both.1
+
+pub cut_beside : (old mid : View) (t s most : ℕ) (none : Bool) → s ≡ 2 - t → Cuts old mid s most none → Cuts old mid (2 - t) most none
+cut_beside old mid t s most none is cut = subst (λ (k : ℕ). Cuts old mid k most none) is cut
 
 pub drafts_counted : (old : View) (t count : ℕ) → Holds old t count → length (drafts_in old.committed) ≡ length (old.trees (2 - t))
 drafts_counted old t count h = ap length (sym (ap drafts_in h.same) ∙ drafts_at old.trees t h.tabled) ∙ length-map (old.trees (2 - t)) request_in

@@ -1,5 +1,5 @@
 -- The requests once the two tables are exchanged.
-use Rattle.std.proofs.Common.{◌≡◌, inl, inr, ℕ, ◌-◌, ◌<◌, pos, true, false, List, [], ◌∷◌, length, map, codes, find, unwrap_or, Option, Some, IsTrue, refl, sym, ap, subst, ◌∙◌, arith, ne_eqb}
+use Rattle.std.proofs.Common.{◌≡◌, inl, inr, ℕ, ◌-◌, ◌<◌, pos, true, false, List, [], ◌∷◌, length, map, codes, find, unwrap_or, Option, Some, refl, sym, ap, subst, ◌∙◌, arith, ne_eqb}
 use Rattle.std.specs.declared.cmp.Ordering.{Ordering}
 use Rattle.std.specs.declared.cmp.Ordering.TheVariants.{Less, Equal, Greater}
 use Rattle.std.specs.Int.{bit_at}
@@ -13,16 +13,15 @@ use Rattle.sqlite_trees.specs.Tree.{Trees, rowid, has_rowid, put_row, with_tree}
 use Rattle.sqlite_trees.specs.Objects.{catalog_tree, is_frozen, object_row, set_at, MayRelist, Relists}
 use Rattle.sqlite_trees.specs.declared.schema.Object.{Object}
 use Rattle.sqlite_trees.specs.declared.store.Shape.TheVariants.{Table}
-use Rattle.sqlite_trees.specs.View.{View, IsClean, SetsTree, Commits}
+use Rattle.sqlite_trees.specs.View.{View, SetsTree, Commits}
 use Rattle.ups_store.specs.Format.{request_table}
 use Rattle.ups_store.specs.Rows.{table_by, table_listed, table_in, requests_in, requests_in_tree, drafts_in, request_in, IsNumbered}
-use Rattle.ups_store.specs.Held.{HasTables, Holds, HoldsIfOpen, HasDraft}
+use Rattle.ups_store.specs.Held.{HasTables, Holds, HasDraft}
 use Rattle.ups_store.specs.Upgrading.{KeepsLastCommit}
 use Rattle.ups_store.specs.Exchanging.{listed_as, exchanged_list, ListsExchanged, Exchanges}
 use Rattle.ups_store.proofs.Tables.{IsLow, low_from, low_not_runs, not_catalog, others_set, own_set, requests_at, numbered_at}
 use Rattle.ups_store.proofs.Dropped.{same_id}
 use Rattle.ups_store.proofs.Relisted.{row_kept, unreal_set, there}
-use Rattle.ups_store.proofs.Steps.{sound_open, open_clean}
 use Rattle.ups_store.proofs.Drafted.{low_other, other_back, drafts_at, drafts_counted}
 
 -- a row that was put is found by its number
@@ -153,20 +152,11 @@ runs_exchanged old mid new t count row h ex done = ap (λ (v : View). v.committe
 pub draft_is : (old : View) (t count n : ℕ) → Holds old t count → HasDraft old t n → n ≡ length (drafts_in old.committed)
 draft_is old t count n h has = sym (drafts_counted old t count h ∙ has.adding.counted)
 
--- what a transaction that is sound would commit
-pub would_exchange : (old mid : View) (t count n : ℕ) (row : Row) → HoldsIfOpen old t count → (IsTrue old.is_open → HasDraft old t n) → (mid.is_clean ≡ false → mid.is_open ≡ false) → (mid.is_open ≡ false → IsTrue mid.is_broken) → (IsClean mid → KeepsLastCommit old mid) → (IsClean mid → Exchanges old mid t row) → mid.is_broken ≡ false
-    → (requests_in mid.trees ≡ drafts_in old.committed) × IsNumbered (mid.trees (table_in mid.trees))
-would_exchange old mid t count n row held draft shut broken stands ex sound =
-    let up = sound_open mid broken sound in
-    let clean = open_clean mid shut up in
-    let was = (stands clean).was_open up in
-    let h = held was in
-    let e = ex clean in
-    let rows = rows_kept old mid t (2 - t) row (low_other t (low_from _ t h.tabled)) e in
-    (requests_after old mid t count row h e, numbered_at mid.trees (2 - t) e.tabled (subst IsNumbered (sym rows) (draft was).adding.numbered))
-
-pub was_listed : (old mid : View) → (mid.is_clean ≡ false → mid.is_open ≡ false) → (mid.is_open ≡ false → IsTrue mid.is_broken) → (IsClean mid → KeepsLastCommit old mid) → mid.is_broken ≡ false → IsTrue old.is_open
-was_listed old mid shut broken stands sound = let up = sound_open mid broken sound in (stands (open_clean mid shut up)).was_open up
+-- what it would commit
+pub says_exchanged : (old mid : View) (t count n : ℕ) (row : Row) → Holds old t count → HasDraft old t n → Exchanges old mid t row → (requests_in mid.trees ≡ drafts_in old.committed) × IsNumbered (mid.trees (table_in mid.trees))
+says_exchanged old mid t count n row h has ex =
+    let rows = rows_kept old mid t (2 - t) row (low_other t (low_from _ t h.tabled)) ex in
+    (requests_after old mid t count row h ex, numbered_at mid.trees (2 - t) ex.tabled (subst IsNumbered (sym rows) has.adding.numbered))
 
 pub stands_through : (a b c : View) → KeepsLastCommit a b → KeepsLastCommit b c → KeepsLastCommit a c
 stands_through a b c h k = record {

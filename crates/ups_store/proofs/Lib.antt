@@ -13,3 +13,4 @@ pub mod Relisted
 pub mod Emptied
 pub mod Drafted
 pub mod Exchanged
+pub mod Concluded

@@ -25,7 +25,7 @@ use Rattle.ups_store.proofs.Tables.{IsLow, low_from, not_catalog, requests_at}
 use Rattle.ups_store.specs.Format.{is_text_cell, request_table, names_draft, run_listing, draft_listing, has_third, with_runs, with_draft, with_third, upgraded, format_number, current_format, IsCurrent}
 use Rattle.ups_store.specs.Held.{Holds, HoldsIfOpen}
 use Rattle.ups_store.specs.Upgrading.{ListsRuns, AddsTrees, AddsDraft, ListsAnew, KeepsLastCommit, CannotDraft}
-use Rattle.ups_store.proofs.Steps.{sound_open, open_clean, adding_as, later_cause}
+use Rattle.ups_store.proofs.Steps.{adding_as, later_cause}
 
 pub stands_set : (old new : View) (tree : ℕ) (edit : List Row → List Row) → SetsTree old new tree edit → KeepsLastCommit old new
 stands_set old new tree edit sets = record {
@@ -223,19 +223,6 @@ listed_third db = go (has_third (with_runs db catalog_tree))
     go : (b : Bool) → row_for ((if b then with_runs db else with_draft (with_runs db)) catalog_tree) 1 ≡ run_listing
     go true = listed_row (db catalog_tree)
     go false = ap (λ (found : Option Row). unwrap_or found []) (row_kept (with_runs db catalog_tree) draft_listing 3 2 refl (λ e. omega (arith, e))) ∙ listed_row (db catalog_tree)
-
--- what the transaction that lists the tables anew would commit
-pub would_list : (old mid : View) (t count : ℕ) → HoldsIfOpen old t count → (mid.is_clean ≡ false → mid.is_open ≡ false) → (mid.is_open ≡ false → IsTrue mid.is_broken) → (IsClean mid → KeepsLastCommit old mid) → (IsClean mid → ListsAnew old mid) → mid.is_broken ≡ false
-    → IsTrue old.is_open × (mid.trees ≡ upgraded old.committed)
-would_list old mid t count held shut broken stands lists sound =
-    let up = sound_open mid broken sound in
-    let clean = open_clean mid shut up in
-    let was = (stands clean).was_open up in
-    (was, (lists clean).trees ∙ ap upgraded (held was).same)
-
-pub leaves_either : (Before Between : Trees → Type 0) (sound up : Type 0) (mid goal : Trees) → (sound → up × (mid ≡ goal)) → ((db : Trees) → Between db → Before db) → (db : Trees) → ((sound × (db ≡ mid)) ⊎ Between db) → Before db ⊎ (up × (db ≡ goal))
-leaves_either Before Between sound up mid goal would quiet db (inl both) = let w = would both.0 in inr (w.0, both.1 ∙ w.1)
-leaves_either Before Between sound up mid goal would quiet db (inr between) = inl (quiet db between)
 
 pub current_as : (old mid new : View) (t count : ℕ) → Holds old t count → ListsAnew old mid → Commits mid new → IsCurrent new.committed
 current_as old mid new t count h lists done =

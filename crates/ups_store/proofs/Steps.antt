@@ -1,5 +1,5 @@
 -- What the calls of a store do to its records.
-use Rattle.std.proofs.Common.{◌≡◌, ℕ, pos, ◌+◌, Bool, true, false, List, [], ◌∷◌, ◌++◌, map, length, Result, Ok, Err, IsTrue, ◌≤◌, ◌⊎◌, inl, inr, IfErr, OnOk, OnErr, refl, sym, ap, subst, ◌∙◌, arith, true≢false, append_assoc, length-append}
+use Rattle.std.proofs.Common.{◌≡◌, ℕ, pos, ◌+◌, Bool, true, false, List, [], ◌∷◌, ◌++◌, map, length, Result, Ok, Err, IsTrue, ◌≤◌, IfErr, OnOk, refl, sym, ap, subst, ◌∙◌, arith, true≢false, append_assoc, length-append}
 use Rattle.std.proofs.lemmas.List.{length-map}
 use Rattle.sqlite_value.specs.Order.{Row}
 use Rattle.sqlite_trees.specs.declared.store.Shape.{Shape}
@@ -7,7 +7,7 @@ use Rattle.sqlite_trees.specs.Tree.{Trees, put_row}
 use Rattle.sqlite_disk.specs.Disk.{MoreFaults}
 use Rattle.sqlite_trees.specs.declared.error.StoreError.{StoreError}
 use Rattle.sqlite_trees.specs.declared.error.StoreError.TheVariants.{OutOfMemory, Io, Corrupt, Full, Broken, Unstorable}
-use Rattle.sqlite_trees.specs.View.{View, doubt, IsClean, SetsTree, OnlyWrites, KeepsSchema, KeepsCommitted, IsFailure, HasCause, IsRolledBack, Commits}
+use Rattle.sqlite_trees.specs.View.{View, doubt, IsClean, SetsTree, OnlyWrites, KeepsSchema, KeepsCommitted, IsFailure, HasCause, Commits}
 use Rattle.ups_store.specs.Rows.{request_row, rows_from, request_in, requests_in_tree, requests_in, table_in, IsNumbered}
 use Rattle.ups_store.specs.declared.request.StoredRequest.{StoredRequest}
 use Rattle.ups_store.specs.Held.{IsAdding, Adds, Holds, HoldsIfOpen, LeavesOthers}
@@ -124,41 +124,6 @@ adding_as a b t count h sound same = record {
   counted = subst (λ (db : Trees). length (db t) ≡ count) (sym same) h.counted;
 }
 
--- a transaction that is rolled back leaves what was committed
-pub undoes : (old mid new : View) → IsClean new → KeepsCommitted old mid → IsRolledBack mid new → IsTrue new.is_open → IsTrue old.is_open × (new.committed ≡ old.committed)
-undoes old mid new clean kept back up =
-    let k = back.kept clean in
-    let was = k.was_open up in
-    (kept.was_open was, k.committed up ∙ kept.committed was)
-
-pub held_undone : (old mid new : View) (t count : ℕ) → HoldsIfOpen old t count → IsClean new → KeepsCommitted old mid → KeepsSchema old mid → IsRolledBack mid new → IsTrue new.is_open → Holds new t count
-held_undone old mid new t count held clean kept schema back up =
-    let both = undoes old mid new clean kept back up in
-    let h = held both.0 in
-    let tables = h.has.tables in
-    let k = back.kept clean in
-    let shape : new.shape ≡ mid.shape = back.shape (schema.shape ∙ sym tables.alike ∙ sym schema.committed_shape) in
-    let reals : new.reals ≡ mid.reals = back.reals (schema.reals ∙ sym tables.typed ∙ sym schema.committed_reals) in
-    let trees : new.trees ≡ old.trees = (back.undone up).0 ∙ kept.committed (k.was_open up) ∙ sym h.same in
-    record {
-      has = record {
-        tables = record {
-          requests = ap (λ (f : ℕ → Shape). f 0) (shape ∙ schema.shape) ∙ tables.requests;
-          runs = ap (λ (f : ℕ → Shape). f 1) (shape ∙ schema.shape) ∙ tables.runs;
-          alike = back.committed_shape ∙ schema.committed_shape ∙ tables.alike ∙ sym (shape ∙ schema.shape);
-          numbered = back.numbered ∙ schema.numbered ∙ tables.numbered;
-          unreal = ap (λ (f : ℕ → ℕ). f 1) (reals ∙ schema.reals) ∙ tables.unreal;
-          first_unreal = ap (λ (f : ℕ → ℕ). f 0) (reals ∙ schema.reals) ∙ tables.first_unreal;
-          last_unreal = ap (λ (f : ℕ → ℕ). f 2) (reals ∙ schema.reals) ∙ tables.last_unreal;
-          typed = back.committed_reals ∙ schema.committed_reals ∙ tables.typed ∙ sym (reals ∙ schema.reals);
-        };
-        shaped = ap (λ (f : ℕ → Shape). f t) (shape ∙ schema.shape) ∙ h.has.shaped;
-      };
-      tabled = ap table_in trees ∙ h.tabled;
-      adding = adding_as old new t count h.adding (back.undone up).1 trees;
-      same = trees ∙ h.same ∙ sym both.1;
-    }
-
 pub held_committed : (old mid new : View) (t was count : ℕ) → HoldsIfOpen old t was → IsTrue old.is_open → KeepsSchema old mid → table_in mid.trees ≡ table_in old.trees → IsAdding mid t count → Commits mid new → Holds new t count
 held_committed old mid new t was count held up schema stays adding done =
     let h = held up in
@@ -183,7 +148,7 @@ held_committed old mid new t was count held up schema stays adding done =
       same = ap (λ (v : View). v.trees) is ∙ sym (ap (λ (v : View). v.committed) is);
     }
 
-not_both : (b : Bool) → b ≡ false → IsTrue b → ⊥
+pub not_both : (b : Bool) → b ≡ false → IsTrue b → ⊥
 not_both b down up = true≢false (sym up ∙ down)
 
 -- a store that is sound is clean and open
@@ -202,41 +167,13 @@ open_clean v shut up = go v.is_clean refl
     go true e = rw e refl
     go false e = absurd (not_both v.is_open (shut e) up)
 
--- the transaction that is sound was open from the start
-pub was_open : (old mid : View) → (mid.is_open ≡ false → IsTrue mid.is_broken) → KeepsCommitted old mid → mid.is_broken ≡ false → IsTrue old.is_open
-was_open old mid broken kept sound = kept.was_open (sound_open mid broken sound)
-
--- what a transaction that is sound would commit
-pub would_say : (old mid : View) (t count : ℕ) (more : List StoredRequest) → HoldsIfOpen old t count → (mid.is_clean ≡ false → mid.is_open ≡ false) → (mid.is_open ≡ false → IsTrue mid.is_broken) → KeepsCommitted old mid
-    → (IsClean mid → Adds old mid t more count) → (IsClean mid → LeavesOthers old mid t) → mid.is_broken ≡ false → (requests_in mid.trees ≡ requests_in old.committed ++ more) × IsNumbered (mid.trees (table_in mid.trees))
-would_say old mid t count more held shut broken kept adds others sound =
-    let up = sound_open mid broken sound in
-    let clean = open_clean mid shut up in
-    let added = adds clean in
-    let h = held (kept.was_open up) in
-    let tabled : table_in mid.trees ≡ t = table_stays old mid t (low_from _ t h.tabled) (others clean) ∙ h.tabled in (
+-- what a transaction that adds requests would commit
+pub says_added : (old mid : View) (t count : ℕ) (more : List StoredRequest) → Holds old t count → Adds old mid t more count → LeavesOthers old mid t → (requests_in mid.trees ≡ requests_in old.committed ++ more) × IsNumbered (mid.trees (table_in mid.trees))
+says_added old mid t count more h added others =
+    let tabled : table_in mid.trees ≡ t = table_stays old mid t (low_from _ t h.tabled) others ∙ h.tabled in (
       requests_at mid.trees t tabled ∙ added.more ∙ ap (λ (rs : List StoredRequest). rs ++ more) (sym (requests_at old.trees t h.tabled)) ∙ ap (λ (db : Trees). requests_in db ++ more) h.same,
       numbered_at mid.trees t tabled added.adding.numbered,
     )
-
-pub outcomes : (Before Between : Trees → Type 0) (sound : Type 0) (mid : Trees) (all : List StoredRequest) → (sound → (requests_in mid ≡ all) × IsNumbered (mid (table_in mid))) → ((db : Trees) → Between db → Before db) → (db : Trees) → ((sound × (db ≡ mid)) ⊎ Between db)
-    → Before db ⊎ ((requests_in db ≡ all) × IsNumbered (db (table_in db)))
-outcomes Before Between sound mid all says quiet db (inl both) =
-    let said = says both.0 in
-    inr (ap requests_in both.1 ∙ said.0, subst (λ (d : Trees). IsNumbered (d (table_in d))) (sym both.1) said.1)
-outcomes Before Between sound mid all says quiet db (inr between) = inl (quiet db between)
-
--- the same, where the store was open before a transaction that is sound
-pub outcomes_open : (Before Between : Trees → Type 0) (sound up : Type 0) (mid : Trees) (all : List StoredRequest) → (sound → up) → (sound → (requests_in mid ≡ all) × IsNumbered (mid (table_in mid))) → ((db : Trees) → Between db → Before db) → (db : Trees)
-    → ((sound × (db ≡ mid)) ⊎ Between db) → Before db ⊎ (up × (requests_in db ≡ all) × IsNumbered (db (table_in db)))
-outcomes_open Before Between sound up mid all was says quiet db (inl both) =
-    let said = says both.0 in
-    inr (was both.0, ap requests_in both.1 ∙ said.0, subst (λ (d : Trees). IsNumbered (d (table_in d))) (sym both.1) said.1)
-outcomes_open Before Between sound up mid all was says quiet db (inr between) = inl (quiet db between)
-
-pub on_err : {T E P : Type 0} (r : Result T E) → P → OnErr r P
-on_err (Ok x) p = tt
-on_err (Err e) p = p
 
 -- a cause of a step is one of all, where the step began sound
 pub later_cause : (old mid : View) (first then last : ℕ) (Some_large All_large : Type 0) (e : StoreError) → first ≤ then → mid.is_broken ≡ false → (Some_large → All_large) → HasCause mid (MoreFaults then last) Some_large e → HasCause old (MoreFaults first last) All_large e

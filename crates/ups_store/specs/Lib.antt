@@ -15,3 +15,4 @@ pub mod Rewriting
 pub mod Upgrading
 pub mod Drafting
 pub mod Exchanging
+pub mod Concluding

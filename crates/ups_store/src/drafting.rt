@@ -1,6 +1,6 @@
 //! Reading the requests of an open store from a place on, writing the draft, and exchanging it for the requests.
 
-ghost use Rattle.std.specs.Prelude.{◌≡◌, ◌⊎◌, ◌+◌, ◌-◌, ◌++◌, ◌<◌, ◌≤◌, ◌^◌, ◌∷◌, [], false, true, min, map, take, drop, length, FitsSigned, IsTrue, IfOk, IfErr, IfSome, OnOk, OnErr};
+ghost use Rattle.std.specs.Prelude.{◌≡◌, ◌⊎◌, ◌+◌, ◌-◌, ◌++◌, ◌<◌, ◌≤◌, ◌^◌, ◌∷◌, [], false, true, min, map, take, drop, length, FitsSigned, IsTrue, IfOk, IfErr, IfSome, OnOk};
 ghost use Rattle.sqlite_disk.specs.Disk.{MoreFaults};
 ghost use Rattle.sqlite_trees.specs.declared.store.Shape.TheVariants.{Table};
 ghost use Rattle.std.specs.Int.{w64};
@@ -11,11 +11,13 @@ ghost use Rattle.ups_store.specs.Runs.{row_of_run};
 ghost use Rattle.ups_store.specs.Upgrading.{KeepsLastCommit};
 ghost use Rattle.sqlite_trees.specs.View.{doubt, IsClean, IsQuiet, KeepsSchema, KeepsCommitted, HasCause, IsStorableRow};
 ghost use Rattle.ups_store.specs.Drafting.{id_in, Drains, Cuts};
+ghost use Rattle.ups_store.specs.Concluding.{KeepsStore};
 ghost use Rattle.ups_store.specs.Held.{HasTables};
 ghost use Rattle.ups_store.specs.Storing.{HasTooLarge};
 ghost use Rattle.ups_store.specs.Faults.{HasReason};
 ghost use Rattle.ups_store.specs.Rows.{stored_in_run, requests_in_tree, requests_in, table_in, IsNumbered};
 
+use crate::concluding::concluded;
 use crate::fault::StoreFault;
 use crate::format::{draft_table, request_table};
 use crate::reading::next_number;
@@ -244,11 +246,8 @@ impl<S: Store> RequestStore<S> {
         ensures drafting { IfOk result (λ none. none ≡ true → IsTrue (is_drafting self.new)) }
         ensures requests { OnOk result (IsClean (requests_shown self.new) → requests self.new ≡ requests self.old) }
         ensures runs { OnOk result (IsClean (requests_shown self.new) → runs self.new ≡ runs self.old) }
-        ensures is_open { OnOk result (IsClean (requests_shown self.new) → IsTrue (requests_shown self.new).is_open) }
-        ensures was_open { IsTrue (requests_shown self.new).is_open → IsTrue (requests_shown self.old).is_open }
-        ensures unchanged { OnErr result (IsTrue (requests_shown self.new).is_open → (requests_shown self.new).committed ≡ (requests_shown self.old).committed) }
+        ensures keeps { KeepsStore (requests_shown self.old) (requests_shown self.new) result }
         ensures tables { IsTrue (requests_shown self.old).is_open → IsClean (requests_shown self.new) → HasTables (requests_shown self.new) }
-        ensures clean { doubt (requests_shown self.old).is_clean ≤ doubt (requests_shown self.new).is_clean }
         ensures crash { (db : Trees) → S.Store.recovers self.new.store db
             → S.Store.recovers self.old.store db ⊎ (IsTrue (requests_shown self.old).is_open × (requests_in db ≡ requests self.old) × IsNumbered (db (table_in db))) }
         ensures cause { IsClean (requests_shown self.new) → IfErr result (HasReason (record {
@@ -265,18 +264,13 @@ impl<S: Store> RequestStore<S> {
             _ => return Err(StoreFault::Shut),
         }
         self.drafted = None;
-        match delete_ends(&mut self.store, &mut self.row, spare, most) {
+        let edited = delete_ends(&mut self.store, &mut self.row, spare, most);
+        match concluded(&mut self.store, edited) {
             Ok(none) => {
-                self.store.commit()?;
-                if none {
-                    self.drafted = Some(0);
-                }
+                self.drafted = none.then_some(0);
                 Ok(none)
             }
-            Err(error) => {
-                self.store.rollback();
-                Err(StoreFault::from(error))
-            }
+            Err(fault) => Err(fault),
         }
     }
 
@@ -292,11 +286,8 @@ impl<S: Store> RequestStore<S> {
         ensures drafting { is_drafting self.new ≡ is_drafting self.old }
         ensures requests { OnOk result (IsClean (requests_shown self.new) → requests self.new ≡ requests self.old) }
         ensures runs { OnOk result (IsClean (requests_shown self.new) → runs self.new ≡ runs self.old) }
-        ensures is_open { OnOk result (IsClean (requests_shown self.new) → IsTrue (requests_shown self.new).is_open) }
-        ensures was_open { IsTrue (requests_shown self.new).is_open → IsTrue (requests_shown self.old).is_open }
-        ensures unchanged { OnErr result (IsTrue (requests_shown self.new).is_open → (requests_shown self.new).committed ≡ (requests_shown self.old).committed) }
+        ensures keeps { KeepsStore (requests_shown self.old) (requests_shown self.new) result }
         ensures tables { IsTrue (requests_shown self.old).is_open → IsClean (requests_shown self.new) → HasTables (requests_shown self.new) }
-        ensures clean { doubt (requests_shown self.old).is_clean ≤ doubt (requests_shown self.new).is_clean }
         ensures crash { (db : Trees) → S.Store.recovers self.new.store db
             → S.Store.recovers self.old.store db ⊎ (IsTrue (requests_shown self.old).is_open × (requests_in db ≡ requests self.old) × IsNumbered (db (table_in db))) }
         ensures cause { IsClean (requests_shown self.new) → IfErr result (HasReason (record {
@@ -314,16 +305,13 @@ impl<S: Store> RequestStore<S> {
             return Err(StoreFault::TooMany);
         };
         let spare = draft_beside(self.table);
-        match put_all(&mut self.store, &mut self.row, spare, drafted, run, records) {
+        let edited = put_all(&mut self.store, &mut self.row, spare, drafted, run, records);
+        match concluded(&mut self.store, edited) {
             Ok(()) => {
-                self.store.commit()?;
                 self.drafted = Some(all);
                 Ok(())
             }
-            Err(error) => {
-                self.store.rollback();
-                Err(StoreFault::from(error))
-            }
+            Err(fault) => Err(fault),
         }
     }
 }
@@ -376,12 +364,9 @@ impl<S: Alter> RequestStore<S> {
         ensures exchanged { OnOk result (IsClean (requests_shown self.new) → requests self.new ≡ drafts self.old) }
         ensures left { OnOk result (IsClean (requests_shown self.new) → drafts self.new ≡ requests self.old) }
         ensures noted { OnOk result (IsClean (requests_shown self.new) → runs self.new ≡ put_row (row_of_run number run.now (length (drafts self.old))) (runs self.old)) }
-        ensures is_open { OnOk result (IsClean (requests_shown self.new) → IsTrue (requests_shown self.new).is_open) }
-        ensures was_open { IsTrue (requests_shown self.new).is_open → IsTrue (requests_shown self.old).is_open }
-        ensures unchanged { OnErr result (IsTrue (requests_shown self.new).is_open → (requests_shown self.new).committed ≡ (requests_shown self.old).committed) }
+        ensures keeps { KeepsStore (requests_shown self.old) (requests_shown self.new) result }
         ensures tables { IsTrue (requests_shown self.new).is_open → HasTables (requests_shown self.new) }
         ensures numbered { IsTrue (requests_shown self.old).is_open → IsClean (requests_shown self.new) → IsTrue (requests_shown self.new).is_numbered }
-        ensures clean { doubt (requests_shown self.old).is_clean ≤ doubt (requests_shown self.new).is_clean }
         ensures crash { (db : Trees) → S.Store.recovers self.new.store db
             → S.Store.recovers self.old.store db ⊎ (IsTrue (requests_shown self.old).is_open × (requests_in db ≡ drafts self.old) × IsNumbered (db (table_in db))) }
         ensures cause { IsClean (requests_shown self.new) → IfErr result (HasReason (record {
@@ -397,25 +382,22 @@ impl<S: Alter> RequestStore<S> {
             return Err(StoreFault::Shut);
         };
         let spare = draft_beside(self.table);
-        match exchange_tables(
+        let edited = exchange_tables(
             &mut self.store,
             &mut self.row,
             self.table,
             drafted,
             number,
             run,
-        ) {
+        );
+        match concluded(&mut self.store, edited) {
             Ok(()) => {
-                self.store.commit()?;
                 self.table = spare;
                 self.count = drafted;
                 self.drafted = None;
                 Ok(())
             }
-            Err(error) => {
-                self.store.rollback();
-                Err(StoreFault::from(error))
-            }
+            Err(fault) => Err(fault),
         }
     }
 }

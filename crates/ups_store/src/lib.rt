@@ -4,6 +4,7 @@
 #![tactic(auto)]
 
 mod cells;
+mod concluding;
 mod digest;
 mod drafting;
 mod fault;

@@ -1,17 +1,19 @@
 //! The open store, to which requests are appended.
 
-ghost use Rattle.std.specs.Prelude.{◌≡◌, ◌⊎◌, ◌+◌, ◌++◌, ◌<◌, ◌≤◌, ◌^◌, ◌∷◌, [], ⊤, false, ℕ, pos, map, length, IsTrue, IfOk, IfErr, OnOk, OnErr, MatchOption};
+ghost use Rattle.std.specs.Prelude.{◌≡◌, ◌⊎◌, ◌+◌, ◌++◌, ◌<◌, ◌≤◌, ◌^◌, ◌∷◌, [], ⊤, false, ℕ, pos, map, length, IsTrue, IfOk, IfErr, OnOk, MatchOption};
 ghost use Rattle.sqlite_disk.specs.Disk.{MoreFaults};
 ghost use Rattle.sqlite_trees.specs.declared.store.Shape.TheVariants.{Table};
 ghost use Rattle.sqlite_trees.specs.Tree.{Trees};
-ghost use Rattle.sqlite_trees.specs.View.{doubt, IsClean, IsQuiet, KeepsSchema, KeepsCommitted, HasCause, IsStorableRow};
+ghost use Rattle.sqlite_trees.specs.View.{IsClean, IsQuiet, KeepsSchema, KeepsCommitted, HasCause, IsStorableRow};
 ghost use Rattle.ups_store.specs.Rows.{stored_in_run, request_row, requests_in, table_in, IsNumbered};
 ghost use Rattle.ups_store.specs.Held.{HasTables, HoldsIfOpen, HoldsDraft, IsAdding, Adds, LeavesOthers};
+ghost use Rattle.ups_store.specs.Concluding.{KeepsStore};
 ghost use Rattle.ups_store.specs.Storing.{HasTooLarge};
 ghost use Rattle.ups_store.specs.Faults.{HasReason};
 ghost use Rattle.sqlite_store.specs.FileStore.{faults, HasSpilled, log_frames};
 ghost use Rattle.sqlite_store.specs.Calls.{IsQuietCall};
 
+use crate::concluding::concluded;
 use crate::fault::StoreFault;
 use crate::request;
 use crate::runs::{Run, enter_run, put_run};
@@ -164,14 +166,11 @@ impl<S: Store> RequestStore<S> {
     /// record has a billion bytes or more; TooMany.
     pub fn append(&mut self, run: u64, records: &[Record<Global>]) -> Result<(), StoreFault>
         ensures added { OnOk result (IsClean (requests_shown self.new) → requests self.new ≡ requests self.old ++ map (stored_in_run run) records.now) }
-        ensures is_open { OnOk result (IsClean (requests_shown self.new) → IsTrue (requests_shown self.new).is_open) }
         ensures runs { OnOk result (IsClean (requests_shown self.new) → (requests_shown self.new).committed 1 ≡ (requests_shown self.old).committed 1) }
         ensures drafts { OnOk result (IsClean (requests_shown self.new) → drafts self.new ≡ drafts self.old) }
         ensures drafting { (is_drafting self.new ≡ is_drafting self.old) × (draft_count self.new ≡ draft_count self.old) }
-        ensures was_open { IsTrue (requests_shown self.new).is_open → IsTrue (requests_shown self.old).is_open }
-        ensures unchanged { OnErr result (IsTrue (requests_shown self.new).is_open → (requests_shown self.new).committed ≡ (requests_shown self.old).committed) }
+        ensures keeps { KeepsStore (requests_shown self.old) (requests_shown self.new) result }
         ensures tables { IsTrue (requests_shown self.old).is_open → IsClean (requests_shown self.new) → HasTables (requests_shown self.new) }
-        ensures clean { doubt (requests_shown self.old).is_clean ≤ doubt (requests_shown self.new).is_clean }
         ensures crash { (db : Trees) → S.Store.recovers self.new.store db
             → S.Store.recovers self.old.store db ⊎ (IsTrue (requests_shown self.old).is_open × (requests_in db ≡ requests self.old ++ map (stored_in_run run) records.now) × IsNumbered (db (table_in db))) }
         ensures cause { IsClean (requests_shown self.new) → IfErr result (HasReason (record {
@@ -185,23 +184,21 @@ impl<S: Store> RequestStore<S> {
         let Some(count) = count_with(self.count, records.len()) else {
             return Err(StoreFault::TooMany);
         };
-        match put_all(
+        let edited = put_all(
             &mut self.store,
             &mut self.row,
             self.table,
             self.count,
             run,
             records,
-        ) {
-            Ok(()) => {}
-            Err(error) => {
-                self.store.rollback();
-                return Err(StoreFault::from(error));
+        );
+        match concluded(&mut self.store, edited) {
+            Ok(()) => {
+                self.count = count;
+                Ok(())
             }
+            Err(fault) => Err(fault),
         }
-        self.store.commit()?;
-        self.count = count;
-        Ok(())
     }
 }
 
@@ -225,9 +222,7 @@ impl<S: Store> RequestStore<S> {
         ensures enough { OnOk result (IsClean (requests_shown self.new) → last_requests (runs self.old) ≤ length (requests self.old)) }
         ensures begun { IfOk result (λ number. IsClean (requests_shown self.new) → runs self.new ≡ last_runs number (runs self.old ++ row_of_run number run.now (length (requests self.old)) ∷ [])) }
         ensures requests { OnOk result (IsClean (requests_shown self.new) → requests self.new ≡ requests self.old) }
-        ensures is_open { OnOk result (IsClean (requests_shown self.new) → IsTrue (requests_shown self.new).is_open) }
-        ensures was_open { IsTrue (requests_shown self.new).is_open → IsTrue (requests_shown self.old).is_open }
-        ensures unchanged { OnErr result (IsTrue (requests_shown self.new).is_open → (requests_shown self.new).committed ≡ (requests_shown self.old).committed) }
+        ensures keeps { KeepsStore (requests_shown self.old) (requests_shown self.new) result }
         ensures tables { IsTrue (requests_shown self.old).is_open → IsClean (requests_shown self.new) → HasTables (requests_shown self.new) }
         ensures crash { (db : Trees) → S.Store.recovers self.new.store db
             → S.Store.recovers self.old.store db ⊎ ((requests_in db ≡ requests self.old) × IsNumbered (db (table_in db))) }
@@ -239,16 +234,8 @@ impl<S: Store> RequestStore<S> {
           IsNotRequest = ⊥;
         }) (count_of self.old < last_requests (runs self.old))) }
     {
-        match enter_run(&mut self.store, &mut self.row, run, self.count) {
-            Ok(number) => {
-                self.store.commit()?;
-                Ok(number)
-            }
-            Err(fault) => {
-                self.store.rollback();
-                Err(fault)
-            }
-        }
+        let edited = enter_run(&mut self.store, &mut self.row, run, self.count);
+        concluded(&mut self.store, edited)
     }
 
     /// Rewrites the row of a run with the current number of requests. Call it before `checkpoint`.
@@ -259,11 +246,8 @@ impl<S: Store> RequestStore<S> {
         ensures requests { OnOk result (IsClean (requests_shown self.new) → requests self.new ≡ requests self.old) }
         ensures drafts { OnOk result (IsClean (requests_shown self.new) → drafts self.new ≡ drafts self.old) }
         ensures drafting { (is_drafting self.new ≡ is_drafting self.old) × (draft_count self.new ≡ draft_count self.old) }
-        ensures is_open { OnOk result (IsClean (requests_shown self.new) → IsTrue (requests_shown self.new).is_open) }
-        ensures was_open { IsTrue (requests_shown self.new).is_open → IsTrue (requests_shown self.old).is_open }
-        ensures unchanged { OnErr result (IsTrue (requests_shown self.new).is_open → (requests_shown self.new).committed ≡ (requests_shown self.old).committed) }
+        ensures keeps { KeepsStore (requests_shown self.old) (requests_shown self.new) result }
         ensures tables { IsTrue (requests_shown self.old).is_open → IsClean (requests_shown self.new) → HasTables (requests_shown self.new) }
-        ensures clean { doubt (requests_shown self.old).is_clean ≤ doubt (requests_shown self.new).is_clean }
         ensures crash { (db : Trees) → S.Store.recovers self.new.store db
             → S.Store.recovers self.old.store db ⊎ (IsTrue (requests_shown self.old).is_open × (requests_in db ≡ requests self.old) × IsNumbered (db (table_in db))) }
         ensures cause { IsClean (requests_shown self.new) → IfErr result (HasReason (record {
@@ -274,16 +258,8 @@ impl<S: Store> RequestStore<S> {
           IsNotRequest = ⊥;
         })) }
     {
-        match put_run(&mut self.store, &mut self.row, number, run, self.count) {
-            Ok(()) => {
-                self.store.commit()?;
-                Ok(())
-            }
-            Err(error) => {
-                self.store.rollback();
-                Err(StoreFault::from(error))
-            }
-        }
+        let edited = put_run(&mut self.store, &mut self.row, number, run, self.count);
+        concluded(&mut self.store, edited)
     }
 }
 

@@ -1,15 +1,17 @@
 //! Making a store of an earlier format one of this version's.
 
-ghost use Rattle.std.specs.Prelude.{◌≡◌, ◌⊎◌, ◌≤◌, false, IsTrue, IfErr, OnOk, OnErr};
+ghost use Rattle.std.specs.Prelude.{◌≡◌, ◌⊎◌, false, IsTrue, IfErr, OnOk};
 ghost use Rattle.sqlite_disk.specs.Disk.{MoreFaults};
 ghost use Rattle.sqlite_trees.specs.Tree.{Trees};
-ghost use Rattle.sqlite_trees.specs.View.{doubt, IsClean, IsQuiet, HasCause};
+ghost use Rattle.sqlite_trees.specs.View.{IsClean, IsQuiet, HasCause};
+ghost use Rattle.ups_store.specs.Concluding.{KeepsStore};
 ghost use Rattle.ups_store.specs.Faults.{HasReason};
 ghost use Rattle.ups_store.specs.Format.{IsCurrent, upgraded};
 ghost use Rattle.ups_store.specs.Held.{HasTables};
 ghost use Rattle.sqlite_trees.specs.Objects.{catalog_tree};
 ghost use Rattle.ups_store.specs.Upgrading.{ListsRuns, AddsDraft, ListsAnew, KeepsLastCommit, CannotListRuns, CannotDraft, CannotList};
 
+use crate::concluding::concluded;
 use crate::fault::StoreFault;
 use crate::format::{CURRENT, VERSION, draft_table, names_draft, run_table};
 use crate::runs::RUNS;
@@ -81,10 +83,7 @@ impl<S: Alter> RequestStore<S> {
         ensures format { OnOk result (IsClean (requests_shown self.new) → IsCurrent (requests_shown self.new).committed) }
         ensures upgraded { OnOk result (IsClean (requests_shown self.new) → (requests_shown self.new).committed ≡ upgraded (requests_shown self.old).committed) }
         ensures requests { OnOk result (IsClean (requests_shown self.new) → requests self.new ≡ requests self.old) }
-        ensures is_open { OnOk result (IsClean (requests_shown self.new) → IsTrue (requests_shown self.new).is_open) }
-        ensures was_open { IsTrue (requests_shown self.new).is_open → IsTrue (requests_shown self.old).is_open }
-        ensures unchanged { OnErr result (IsTrue (requests_shown self.new).is_open → (requests_shown self.new).committed ≡ (requests_shown self.old).committed) }
-        ensures clean { doubt (requests_shown self.old).is_clean ≤ doubt (requests_shown self.new).is_clean }
+        ensures keeps { KeepsStore (requests_shown self.old) (requests_shown self.new) result }
         ensures crash { (db : Trees) → S.Store.recovers self.new.store db
             → S.Store.recovers self.old.store db ⊎ (IsTrue (requests_shown self.old).is_open × (db ≡ upgraded (requests_shown self.old).committed)) }
         ensures cause { IsClean (requests_shown self.new) → IfErr result (HasReason (record {
@@ -95,15 +94,7 @@ impl<S: Alter> RequestStore<S> {
           IsNotRequest = ⊥;
         })) }
     {
-        match list_anew(self.alloc, &mut self.store) {
-            Ok(()) => {
-                self.store.commit()?;
-                Ok(())
-            }
-            Err(error) => {
-                self.store.rollback();
-                Err(StoreFault::from(error))
-            }
-        }
+        let edited = list_anew(self.alloc, &mut self.store);
+        concluded(&mut self.store, edited)
     }
 }

@@ -22,7 +22,7 @@ pub returns-in-Ok-clause-crash : goal.returns-in-Ok-clause-crash
 returns-in-Ok-clause-crash g c = λ rs left.
     subst (λ h. Recovers h rs ⊎ (IsOpenStore h × (rs ≡ records_in h))) (sym c.in-Open.is)
     (elim (c.draft.ensures.crash left.db left.can_leave) [
-      | inl was ↦ inl (leaves_before c.in-Open.store c.draft.new.self rs c.draft.ensures.clean (g.met.S.Store.settled c.in-Open.store.store) left was)
+      | inl was ↦ inl (leaves_before c.in-Open.store c.draft.new.self rs c.draft.ensures.keeps.clean (g.met.S.Store.settled c.in-Open.store.store) left was)
       | inr both ↦ inr (both.0, sym left.are ∙ ap said both.1)
     ])
 
@@ -30,6 +30,6 @@ pub returns-in-Err-clause-crash : goal.returns-in-Err-clause-crash
 returns-in-Err-clause-crash g c = λ rs left.
     subst (λ h. Recovers h rs ⊎ (IsOpenStore h × (rs ≡ records_in h))) (sym c.in-Open.is)
     (elim (c.draft.ensures.crash left.db left.can_leave) [
-      | inl was ↦ inl (leaves_before c.in-Open.store c.draft.new.self rs c.draft.ensures.clean (g.met.S.Store.settled c.in-Open.store.store) left was)
+      | inl was ↦ inl (leaves_before c.in-Open.store c.draft.new.self rs c.draft.ensures.keeps.clean (g.met.S.Store.settled c.in-Open.store.store) left was)
       | inr both ↦ inr (both.0, sym left.are ∙ ap said both.1)
     ])

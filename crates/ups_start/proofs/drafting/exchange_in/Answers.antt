@@ -15,14 +15,14 @@ returns-in-Ok-clause-put g c is_open =
 
 pub returns-in-Ok-clause-left : goal.returns-in-Ok-clause-left
 returns-in-Ok-clause-left g c = λ rs left.
-    let up = c.in-Ok.ensures.is_open left.clean in
+    let up = c.in-Ok.ensures.keeps.is_open left.clean in
     (up, sym left.are ∙ ap (λ (db : Trees). said (requests_in db)) (left.settled up))
 
 pub returns-in-Ok-clause-crash : goal.returns-in-Ok-clause-crash
 returns-in-Ok-clause-crash g c = λ rs left.
     subst (λ h. Recovers h rs ⊎ (IsOpenStore h × (rs ≡ drafts_on h))) (sym c.in-Open.is)
     (elim (c.exchange.ensures.crash left.db left.can_leave) [
-      | inl was ↦ inl (leaves_before c.in-Open.store c.exchange.new.self rs c.exchange.ensures.clean (g.met.S.Store.settled c.in-Open.store.store) left was)
+      | inl was ↦ inl (leaves_before c.in-Open.store c.exchange.new.self rs c.exchange.ensures.keeps.clean (g.met.S.Store.settled c.in-Open.store.store) left was)
       | inr both ↦ inr (both.0, sym left.are ∙ ap said both.1)
     ])
 
@@ -30,6 +30,6 @@ pub returns-in-Err-clause-crash : goal.returns-in-Err-clause-crash
 returns-in-Err-clause-crash g c = λ rs left.
     subst (λ h. Recovers h rs ⊎ (IsOpenStore h × (rs ≡ drafts_on h))) (sym c.in-Open.is)
     (elim (c.exchange.ensures.crash left.db left.can_leave) [
-      | inl was ↦ inl (leaves_before c.in-Open.store c.exchange.new.self rs c.exchange.ensures.clean (g.met.S.Store.settled c.in-Open.store.store) left was)
+      | inl was ↦ inl (leaves_before c.in-Open.store c.exchange.new.self rs c.exchange.ensures.keeps.clean (g.met.S.Store.settled c.in-Open.store.store) left was)
       | inr both ↦ inr (both.0, sym left.are ∙ ap said both.1)
     ])

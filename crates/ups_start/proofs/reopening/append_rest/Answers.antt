@@ -10,7 +10,7 @@ pub returns-in-Ok : goal.returns-in-Ok
 returns-in-Ok g c = record {
   behind = λ committed was clean.
       let old = c.args.reopened.store in
-      let up = c.append.ensures.was_open (c.in-Ok.ensures.is_open clean) in
+      let up = c.append.ensures.keeps.was_open (c.in-Ok.ensures.keeps.is_open clean) in
       let before = open_clean (requests_shown old) (g.met.S.Store.shut_if_dirty old.store) up in
       let there = c.args.reopened.there in
       let rs = c.args.records.now in

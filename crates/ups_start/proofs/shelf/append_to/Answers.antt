@@ -22,14 +22,14 @@ returns-in-Ok-clause-drafts g c is_open =
 
 pub returns-in-Ok-clause-left : goal.returns-in-Ok-clause-left
 returns-in-Ok-clause-left g c = λ rs left.
-    let up = c.in-Ok.ensures.is_open left.clean in
+    let up = c.in-Ok.ensures.keeps.is_open left.clean in
     (up, sym left.are ∙ ap (λ (db : Trees). said (requests_in db)) (g.met.S.Store.settled c.append.new.self.store left.db up left.can_leave))
 
 pub returns-in-Ok-clause-crash : goal.returns-in-Ok-clause-crash
 returns-in-Ok-clause-crash g c = λ rs left.
     subst (λ h. Recovers h rs ⊎ (IsOpenStore h × (rs ≡ records_in h ++ c.args.records.now))) (sym c.in-Open.is)
     (elim (c.append.ensures.crash left.db left.can_leave) [
-      | inl was ↦ inl (leaves_before c.in-Open.store c.append.new.self rs c.append.ensures.clean (g.met.S.Store.settled c.in-Open.store.store) left was)
+      | inl was ↦ inl (leaves_before c.in-Open.store c.append.new.self rs c.append.ensures.keeps.clean (g.met.S.Store.settled c.in-Open.store.store) left was)
       | inr both ↦ inr (both.0, sym left.are ∙ said_more _ (requests_in left.db) c.args.run c.args.records.now both.1)
     ])
 
@@ -37,6 +37,6 @@ pub returns-in-Err-clause-crash : goal.returns-in-Err-clause-crash
 returns-in-Err-clause-crash g c = λ rs left.
     subst (λ h. Recovers h rs ⊎ (IsOpenStore h × (rs ≡ records_in h ++ c.args.records.now))) (sym c.in-Open.is)
     (elim (c.append.ensures.crash left.db left.can_leave) [
-      | inl was ↦ inl (leaves_before c.in-Open.store c.append.new.self rs c.append.ensures.clean (g.met.S.Store.settled c.in-Open.store.store) left was)
+      | inl was ↦ inl (leaves_before c.in-Open.store c.append.new.self rs c.append.ensures.keeps.clean (g.met.S.Store.settled c.in-Open.store.store) left was)
       | inr both ↦ inr (both.0, sym left.are ∙ said_more _ (requests_in left.db) c.args.run c.args.records.now both.1)
     ])

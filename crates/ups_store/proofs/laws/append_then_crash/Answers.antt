@@ -20,7 +20,7 @@ returns-clause-outcome g c clean =
     same in
     let done = both_ok c.append.result (λ says is_open.
     let is : requests_in found ≡ all = ap requests_in (g.met.S.Store.settled c.append.new.self.store found (is_open mine) after) ∙ says mine in
-    is) c.append.ensures.added c.append.ensures.is_open in
+    is) c.append.ensures.added c.append.ensures.keeps.is_open in
     told c.append.result c.is_ok-done.result c.is_ok-done.ensures.value done (both_ways was (λ said. said.1) (c.append.ensures.crash found after))
 
 pub returns-clause-numbered : goal.returns-clause-numbered

@@ -1,8 +1,10 @@
 use Rattle.std.proofs.Common.{IsTrue, sym, subst}
 use Rattle.sqlite_trees.specs.View.{View}
 use Rattle.ups_store.specs.Held.{Holds}
-use Rattle.ups_store.proofs.Steps.{open_clean, undoes, held_undone}
-use Rattle.ups_store.proofs.Drafted.{draft_same, draft_undone}
+use Rattle.ups_store.proofs.Steps.{open_clean}
+use Rattle.ups_store.proofs.Relisted.{undone, held_unlisted}
+use Rattle.ups_store.proofs.Drafted.{draft_same, draft_unlisted}
+use Rattle.ups_store.proofs.Concluded.{last_kept}
 use Rattle.ups_store.proofs.store.RequestStore.read_from.Goals as goal
 
 pub invariant_of-self : goal.invariant_of-self
@@ -22,8 +24,8 @@ invariant_of-self-in-Err g c =
     let mid = g.S.Store.view c.read_rows.new.store in
     let new = g.S.Store.view c.rollback.new.self in
     record {
-      held = λ up. held_undone old mid new it.table it.count it.held (open_clean new (g.met.S.Store.shut_if_dirty c.rollback.new.self) up) c.read_rows.ensures.kept c.read_rows.ensures.schema c.rollback.ensures.undone up;
-      draft = draft_undone old mid new it.table it.count it.drafted it.held it.draft (g.met.S.Store.shut_if_dirty c.rollback.new.self) c.read_rows.ensures.kept c.read_rows.ensures.schema c.rollback.ensures.undone;
+      held = λ up. held_unlisted old mid new it.table it.count it.held (open_clean new (g.met.S.Store.shut_if_dirty c.rollback.new.self) up) (last_kept c.read_rows.ensures.kept) c.rollback.ensures.undone up;
+      draft = λ n is up. draft_unlisted old mid new it.table it.count it.drafted it.held it.draft (open_clean new (g.met.S.Store.shut_if_dirty c.rollback.new.self) up) (last_kept c.read_rows.ensures.kept) c.rollback.ensures.undone n is up;
     }
 
 pub returns-in-Err-clause-same : goal.returns-in-Err-clause-same
@@ -31,11 +33,11 @@ returns-in-Err-clause-same g c up =
     let old = g.S.Store.view c.args.self.now.store in
     let mid = g.S.Store.view c.read_rows.new.store in
     let new = g.S.Store.view c.rollback.new.self in
-    (undoes old mid new (open_clean new (g.met.S.Store.shut_if_dirty c.rollback.new.self) up) c.read_rows.ensures.kept c.rollback.ensures.undone up).1
+    (undone old mid new (open_clean new (g.met.S.Store.shut_if_dirty c.rollback.new.self) up) (last_kept c.read_rows.ensures.kept) c.rollback.ensures.undone up).1
 
 pub returns-in-Err-clause-was_open : goal.returns-in-Err-clause-was_open
 returns-in-Err-clause-was_open g c up =
     let old = g.S.Store.view c.args.self.now.store in
     let mid = g.S.Store.view c.read_rows.new.store in
     let new = g.S.Store.view c.rollback.new.self in
-    (undoes old mid new (open_clean new (g.met.S.Store.shut_if_dirty c.rollback.new.self) up) c.read_rows.ensures.kept c.rollback.ensures.undone up).0
+    (undone old mid new (open_clean new (g.met.S.Store.shut_if_dirty c.rollback.new.self) up) (last_kept c.read_rows.ensures.kept) c.rollback.ensures.undone up).0
