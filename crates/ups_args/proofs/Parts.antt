@@ -20,45 +20,12 @@ both_true : (a b : Bool) → a ≡ true → b ≡ true → (a && b) ≡ true
 both_true true b e f = f
 both_true false b e f = absurd cc
 
-first_true : (a b : Bool) → (a && b) ≡ true → a ≡ true
-first_true true b e = refl
-first_true false b e = absurd cc
-
-no_digit : (c : ℕ) → c ≡ 43 → is_ascii_digit c ≡ true → ⊥
-no_digit c e h = let k : is_ascii_digit 43 ≡ true = ap is_ascii_digit (sym e) ∙ h in absurd cc
-
 digit_passes : (c : ℕ) → digit_value c < 10 → is_ascii_digit c ≡ true
 digit_passes c l = let r : IsInRange 48 57 c = digit_from_value c l in grind (arith, nat_tests, r.0, r.1)
 
 pub digits_pass : (xs : List ℕ) → AllDigits 10 xs → list_all is_ascii_digit xs ≡ true
 digits_pass [] d = refl
 digits_pass (x ∷ xs) d = both_true (is_ascii_digit x) (list_all is_ascii_digit xs) (digit_passes x d.0) (digits_pass xs d.1)
-
-first_digit : (bs : List ℕ) → list_all is_ascii_digit bs ≡ true → get_or bs 0 0 ≢ 43
-first_digit [] d e = absurd (omega arith)
-first_digit (c ∷ cs) d e = let h : is_ascii_digit c ≡ true = first_true (is_ascii_digit c) (list_all is_ascii_digit cs) d in absurd (no_digit c e h)
-
-no_plus : (bs : List ℕ) → list_all is_ascii_digit bs ≡ true → without_leading_plus bs ≡ bs
-no_plus bs d = without_leading_plus_none bs (first_digit bs d)
-
--- what is read of digits alone
-record Reads (bs : List ℕ) (v : ℕ) : Type 0 where
-  pub numeral : IsNumeral 10 bs
-  pub most : digits_value 10 bs < 2 ^ 16
-  pub value : v ≡ digits_value 10 bs
-
-reads : {E : Type 0} (bs : List ℕ) (r : Result ℕ E) (v : ℕ) → ParsesUnsigned 16 10 bs r → r ≡ Ok v → list_all is_ascii_digit bs ≡ true → Reads bs v
-reads bs r v h e d =
-    let k : (IsNumeral 10 (without_leading_plus bs) × (digits_value 10 (without_leading_plus bs) < 2 ^ 16)) × (v ≡ digits_value 10 (without_leading_plus bs)) = rw e at h in
-    let p = no_plus bs d in
-    record {
-      numeral = subst (IsNumeral 10) p k.0.0;
-      most = subst (λ (l : List ℕ). digits_value 10 l < 2 ^ 16) p k.0.1;
-      value = k.1 ∙ ap (digits_value 10) p;
-    }
-
-is_above : (v : ℕ) → 1 ≤ v → IsTrue (nat_lt 0 v)
-is_above v l = grind (arith, nat_tests, l)
 
 -- none of these is c
 abbrev pub NoneIs : ℕ → List ℕ → Type 0

@@ -11,7 +11,7 @@ use Rattle.ups_life.specs.declared.watching.Target.TheVariants.{Single, Global, 
 use Rattle.ups_life.specs.declared.watching.Place.TheVariants.{At, Everywhere}
 use Rattle.ups_life.specs.Watching.{cover_after, cover}
 use Rattle.ups_compact.specs.Compacting.{left}
-use Rattle.ups_compact.proofs.Off.{does_some, plain, said_left}
+use Rattle.ups_compact.proofs.Off.{does_some, plain}
 
 either : {X : Type 0} (b : Bool) (x : X) → cond b x x ≡ x
 either true x = refl
@@ -40,7 +40,3 @@ cover_plain {A} steps peers w attributes (e ∷ es) = at (does_some steps e.requ
     at : (b : Bool) → does_some steps e.request ≡ b → cover peers (plain steps es) w attributes ≡ cover peers es w attributes → cover peers (cond b (e ∷ plain steps es) (plain steps es)) w attributes ≡ cover peers (e ∷ es) w attributes
     at true is h = ap (λ (x : Option Subscription). cover_after peers w attributes x e.request) h
     at false is h = h ∙ sym (cover_off steps peers w attributes (cover peers es w attributes) e.request is)
-
--- and in what is left, with its reservations
-pub cover_left : {A : Type 0} (steps : List (List ℕ)) (peers : List Peer) (w : List ℕ) (attributes : List El) (es : List (Entry A)) → cover peers (left steps es) w attributes ≡ cover peers es w attributes
-cover_left {A} steps peers w attributes es = said_left steps (λ (xs : List (Entry A)). cover peers xs w attributes) (cover_plain steps peers w attributes) es

@@ -8,7 +8,7 @@ use Rattle.ups_life.specs.Settings.{Settings}
 use Rattle.ups_life.specs.Steps.{Claim, is_on, state_then, state, claimed, claim, right, finished, final_at, given, gives, row, row_of}
 use Rattle.ups_life.specs.Watching.{is_among}
 use Rattle.ups_compact.specs.Compacting.{left}
-use Rattle.ups_compact.proofs.Off.{does_some, plain, off, said_left}
+use Rattle.ups_compact.proofs.Off.{does_some, plain, off}
 
 pub state_plain : {A : Type 0} (steps : List (List ℕ)) (u : List ℕ) → is_among u steps ≡ true → (es : List (Entry A)) → state (plain steps es) u ≡ state es u
 state_plain steps u in' [] = refl
@@ -59,12 +59,3 @@ row_of_plain s steps u in' es =
     ∙ (ap (λ (x : StepState). record { attributes = row s es u; state = x; transaction = right (plain steps es) u; final_at = final_at (plain steps es) u }) t
     ∙ (ap (λ (x : Option (List ℕ)). record { attributes = row s es u; state = state es u; transaction = x; final_at = final_at (plain steps es) u }) c
     ∙ ap (λ (x : Option ℕ). record { attributes = row s es u; state = state es u; transaction = right es u; final_at = x }) f))
-
--- and of what is left, with its reservations
-module _ {A : Type 0} (steps : List (List ℕ)) (u : List ℕ) (in' : is_among u steps ≡ true) (es : List (Entry A)) where
-  pub state_left : state (left steps es) u ≡ state es u
-  state_left = said_left steps (λ (xs : List (Entry A)). state xs u) (state_plain steps u in') es
-
-module _ {A : Type 0} (s : Settings) (steps : List (List ℕ)) (u : List ℕ) (in' : is_among u steps ≡ true) (es : List (Entry A)) where
-  pub row_left : row s (left steps es) u ≡ row s es u
-  row_left = said_left steps (λ (xs : List (Entry A)). row s xs u) (row_plain s steps u in') es

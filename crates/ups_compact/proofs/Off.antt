@@ -53,16 +53,3 @@ does_less steps (Unsubscribe place receiver) out = out
 does_less steps (Suspend receiver) out = out
 does_less steps (Ack upto) out = out
 does_less steps Sweep out = out
-
-pub plain_left : {A : Type 0} (steps : List (List ℕ)) (es : List (Entry A)) → plain steps (left steps es) ≡ plain steps es
-plain_left steps [] = refl
-plain_left {A} steps (e ∷ es) = at (is_left steps e.request) refl (plain_left steps es)
-  where
-    at : (b : Bool) → is_left steps e.request ≡ b → plain steps (left steps es) ≡ plain steps es → plain steps (cond b (e ∷ left steps es) (left steps es)) ≡ plain steps (e ∷ es)
-    at true is h = ap (λ (xs : List (Entry A)). cond (does_some steps e.request) (e ∷ xs) xs) h
-    at false is h = h ∙ sym (ap (λ (b : Bool). cond b (e ∷ plain steps es) (plain steps es)) (does_less steps e.request is))
-
--- so what it says without them is what the history says
-module _ {A X : Type 0} (steps : List (List ℕ)) (f : List (Entry A) → X) (same : (xs : List (Entry A)) → f (plain steps xs) ≡ f xs) where
-  pub said_left : (es : List (Entry A)) → f (left steps es) ≡ f es
-  said_left es = sym (same (left steps es)) ∙ ap f (plain_left steps es) ∙ same es

@@ -16,9 +16,9 @@ use Rattle.ups_life.specs.Settings.{Settings}
 use Rattle.ups_life.specs.Steps.{is_step, state, row, final_at}
 use Rattle.ups_life.specs.Watching.{granted, takes_in, cover, newly_covered, watch_after, watch, is_locked, is_kept, has_passed, is_due, is_among}
 use Rattle.ups_compact.specs.Compacting.{left}
-use Rattle.ups_compact.proofs.Off.{does_some, plain, other, no_step, said_left}
-use Rattle.ups_compact.proofs.Holding.{state_plain, row_next, row_plain, final_plain, state_left, row_left}
-use Rattle.ups_compact.proofs.Covering.{cover_plain, cover_left}
+use Rattle.ups_compact.proofs.Off.{does_some, plain, other, no_step}
+use Rattle.ups_compact.proofs.Holding.{state_plain, row_next, row_plain, final_plain}
+use Rattle.ups_compact.proofs.Covering.{cover_plain}
 
 -- an entry does to a subscription what it does after another history that says the same of the step, and covers the same
 module _ {A : Type 0} (s : Settings) (w u : List ℕ) (e : Entry A) (xs es : List (Entry A)) (p : state xs u ≡ state es u) (q : row s xs u ≡ row s es u)
@@ -86,11 +86,3 @@ pub due_plain : {A : Type 0} (s : Settings) (steps : List (List ℕ)) (u : List 
 due_plain s steps u moment in' es =
     ap (λ (x : Option ℕ). has_passed s.keep moment x && not (is_kept s (plain steps es) u)) (final_plain steps u in' es)
     ∙ ap (λ (b : Bool). has_passed s.keep moment (final_at es u) && not b) (kept_plain s steps u in' es)
-
--- and of what is left, with its reservations
-module _ {A : Type 0} (s : Settings) (steps : List (List ℕ)) (w u : List ℕ) (in' : is_among u steps ≡ true) where
-  pub watch_left : (es : List (Entry A)) → watch s (left steps es) w u ≡ watch s es w u
-  watch_left es = said_left steps (λ (xs : List (Entry A)). watch s xs w u) (watch_plain s steps w u in') es
-
-  pub watch_next : (e : Entry A) (es : List (Entry A)) → watch s (e ∷ left steps es) w u ≡ watch s (e ∷ es) w u
-  watch_next e es = watch_more s w u e (left steps es) es (state_left steps u in' es) (row_left s steps u in' es) (λ x. cover_left steps s.peers w x es) (watch_left es)

@@ -67,7 +67,3 @@ element_at-laid_over low t (x ∷ xs) ys (_, _, _, _, later) =
     element_at-laid_over (number x.tag + 1) t xs (put x ys) later
     ∙ ap (λ o. first_of_two (element_at t xs) o) (element_at-put t x ys)
     ∙ over_step t x.tag x xs (element_at t ys) (is_tag x.tag t) refl later
-
-found_step : (t u : Tag) (b : Bool) (x e : El) (rest : Option El) → (if b then Some x else rest) ≡ Some e → IsElement x → (rest ≡ Some e → IsElement e) → IsElement e
-found_step t u true x e rest h is later = let same : x ≡ e = cc in subst (λ (y : El). IsElement y) same is
-found_step t u false x e rest h is later = later h

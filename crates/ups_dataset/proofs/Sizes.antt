@@ -12,15 +12,6 @@ use Rattle.ups_dataset.specs.Data.{El, items_of, weight, weight_data, weight_ite
 use Rattle.ups_dataset.specs.View.{element_view, value_view}
 use Rattle.ups_dataset.specs.Written.{written_length, written, written_head, written_items, written_element, sequence_item}
 
-tail_length : (b : Bool) (m n : ℕ) → length (written_length b m) ≡ length (written_length b n)
-tail_length true m n = refl
-tail_length false m n = refl
-
--- a header's length depends on the representation alone
-pub head_length : (syntax : TransferSyntax) (j k : Tag) (vr : Vr) (m n : ℕ) → length (written_head syntax j vr m) ≡ length (written_head syntax k vr n)
-head_length Implicit j k vr m n = refl
-head_length Explicit j k vr m n = omega (arith, tail_length (is_long vr) m n, length-append (letters vr) (written_length (is_long vr) m), length-append (letters vr) (written_length (is_long vr) n))
-
 pub written_map : (syntax : TransferSyntax) {A : Type 0} (es : List (Element A)) → written syntax (map element_view es) ≡ flat_map (λ e. written_element syntax (element_view e)) es
 written_map syntax [] = refl
 written_map syntax (e ∷ es) = ap (λ l. written_element syntax (element_view e) ++ l) (written_map syntax es)

@@ -37,12 +37,6 @@ pub record TagsSoFar (bytes : List ℕ) (ts : List Tag) (rest : List ℕ) : Type
   pub on : (tail : List Tag) → Each IsTagAt rest tail → Each IsTagAt bytes (ts ++ tail)
   pub fours : length rest % 4 ≡ 0
 
-pub tags_next : (bytes : List ℕ) (ts : List Tag) (rest : List ℕ) (t : Tag) (after : List ℕ) → TagsSoFar bytes ts rest → IsTagAt rest t after → TagsSoFar bytes (ts ++ t ∷ []) after
-tags_next bytes ts rest t after s p = record {
-  on = λ tail e. subst (λ (l : List Tag). Each IsTagAt bytes l) (sym (append_assoc ts (t ∷ []) tail)) (s.on (t ∷ tail) (after, p, e));
-  fours = omega (arith, s.fours, tag_long rest t after p);
-}
-
 pub tags_end : (bytes : List ℕ) (ts : List Tag) (rest : List ℕ) → TagsSoFar bytes ts rest → length rest < 4 → Each IsTagAt bytes ts
 tags_end bytes ts rest s short = subst (λ (l : List Tag). Each IsTagAt bytes l) (append-nil ts) (s.on [] (nil_from_length rest (omega (arith, s.fours, short))))
 

@@ -12,10 +12,6 @@ abbrev pub Below : ℕ → List CommandElement → Type 0
 Below from [] = Unit {0}
 Below from (e ∷ es) = (e.number < from) × Below from es
 
-below_more : (from more : ℕ) (es : List CommandElement) → from ≤ more → Below from es → Below more es
-below_more from more [] l b = tt
-below_more from more (e ∷ es) l b = (omega (arith, l, b.0), below_more from more es l b.1)
-
 below_next : (from : ℕ) (es : List CommandElement) (e : CommandElement) → Below from es → from ≤ e.number → Below (e.number + 1) (es ++ e ∷ [])
 below_next from [] e b l = (omega arith, tt)
 below_next from (x ∷ xs) e b l = (omega (arith, b.0, l), below_next from xs e b.1 l)

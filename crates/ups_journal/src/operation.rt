@@ -1,12 +1,11 @@
 //! The operations of records.
 
-ghost use Rattle.std.specs.Prelude.{◌≡◌, Some, IfSome};
-ghost use Rattle.ups_journal.specs.declared.operation.RecordedOperation.{RecordedOperation};
-ghost use Rattle.ups_journal.specs.Operations.{number_of, name_of};
+ghost use Rattle.std.specs.Prelude.{◌≡◌};
+ghost use Rattle.ups_journal.specs.Operations.{name_of, operation_named};
 
 use std::fmt::{self, Display, Formatter};
 
-/// The operation of an accepted request. A store keeps its number, which never changes, and may show its name.
+/// The operation of an accepted request. A store keeps its name, which never changes.
 #[derive(Clone, Copy, Debug, PartialEq, Eq)]
 pub enum RecordedOperation {
     /// The creation of a step (N-CREATE).
@@ -32,45 +31,8 @@ pub enum RecordedOperation {
 }
 
 impl RecordedOperation {
-    /// Returns the number of the operation in a store.
-    pub fn number(self) -> u8
-        ensures { result ≡ number_of self }
-    {
-        match self {
-            RecordedOperation::Create => 1,
-            RecordedOperation::Change => 2,
-            RecordedOperation::AskCancel => 3,
-            RecordedOperation::Set => 4,
-            RecordedOperation::Subscribe => 5,
-            RecordedOperation::Unsubscribe => 6,
-            RecordedOperation::Suspend => 7,
-            RecordedOperation::Acknowledge => 8,
-            RecordedOperation::Sweep => 9,
-            RecordedOperation::Reserve => 10,
-        }
-    }
-
-    /// Returns the operation with this number, or None if there is none.
-    pub fn of_number(number: u8) -> Option<RecordedOperation>
-        ensures number { IfSome result (λ o. number_of o ≡ number) }
-        ensures only { (o : RecordedOperation) → number_of o ≡ number → result ≡ Some o }
-    {
-        match number {
-            1 => Some(RecordedOperation::Create),
-            2 => Some(RecordedOperation::Change),
-            3 => Some(RecordedOperation::AskCancel),
-            4 => Some(RecordedOperation::Set),
-            5 => Some(RecordedOperation::Subscribe),
-            6 => Some(RecordedOperation::Unsubscribe),
-            7 => Some(RecordedOperation::Suspend),
-            8 => Some(RecordedOperation::Acknowledge),
-            9 => Some(RecordedOperation::Sweep),
-            10 => Some(RecordedOperation::Reserve),
-            _ => None,
-        }
-    }
-
-    /// Returns the name of the operation for an operator. No two operations have the same.
+    /// Returns the name of the operation, as a store keeps it: another would be another format. No two operations have
+    /// the same.
     pub fn name(self) -> &'static [u8]
         ensures { result.now ≡ name_of self }
     {
@@ -89,29 +51,29 @@ impl RecordedOperation {
     }
 
     /// Returns the operation with this name, or None if there is none.
+    #[tactic(auto, unfolding(crate::specs::Operations::operation_named))]
     pub fn named(name: &[u8]) -> Option<RecordedOperation>
-        ensures name { IfSome result (λ o. name_of o ≡ name.now) }
-        ensures only { (o : RecordedOperation) → name_of o ≡ name.now → result ≡ Some o }
+        ensures { result ≡ operation_named name.now }
     {
-        if name == b"create".as_slice() {
+        if name == RecordedOperation::Create.name() {
             Some(RecordedOperation::Create)
-        } else if name == b"change state".as_slice() {
+        } else if name == RecordedOperation::Change.name() {
             Some(RecordedOperation::Change)
-        } else if name == b"request cancel".as_slice() {
+        } else if name == RecordedOperation::AskCancel.name() {
             Some(RecordedOperation::AskCancel)
-        } else if name == b"set".as_slice() {
+        } else if name == RecordedOperation::Set.name() {
             Some(RecordedOperation::Set)
-        } else if name == b"subscribe".as_slice() {
+        } else if name == RecordedOperation::Subscribe.name() {
             Some(RecordedOperation::Subscribe)
-        } else if name == b"unsubscribe".as_slice() {
+        } else if name == RecordedOperation::Unsubscribe.name() {
             Some(RecordedOperation::Unsubscribe)
-        } else if name == b"suspend".as_slice() {
+        } else if name == RecordedOperation::Suspend.name() {
             Some(RecordedOperation::Suspend)
-        } else if name == b"acknowledge".as_slice() {
+        } else if name == RecordedOperation::Acknowledge.name() {
             Some(RecordedOperation::Acknowledge)
-        } else if name == b"sweep".as_slice() {
+        } else if name == RecordedOperation::Sweep.name() {
             Some(RecordedOperation::Sweep)
-        } else if name == b"reserve".as_slice() {
+        } else if name == RecordedOperation::Reserve.name() {
             Some(RecordedOperation::Reserve)
         } else {
             None

@@ -90,11 +90,6 @@ class_of_all offset keys (r ∷ rs) none =
     ap (λ (l : List (List El)). r ∷ l) (class_of_all offset keys rs none)
     ∙ sym (ap (λ (b : Bool). cond b (r ∷ class offset keys rs) (class offset keys rs)) (ap (λ first. meets_first keys.offset first (elements_of r)) none))
 
--- there are as many attributes as steps
-pub as_many_rows : {A : Type 0} (hs : List (HeldStep A)) → length (attributes_in hs) ≡ length hs
-as_many_rows [] = refl
-as_many_rows (h ∷ hs) = ap suc (as_many_rows hs)
-
 -- the rows that the table shares
 pub held_attributes : {A : Type 0} (es : List (List ℕ × HeldRow A)) → attributes_held es ≡ attributes_in (as_steps es)
 held_attributes [] = refl

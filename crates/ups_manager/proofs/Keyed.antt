@@ -37,18 +37,6 @@ pub keys_if_ok : {A E : Type 0} (s : Settings) (history : List (Entry A)) (t : T
 keys_if_ok s history t (Ok v) st is = is ∙ keys_held_are s history t st
 keys_if_ok s history t (Err e) st is = is
 
--- and there are as many
-pub steps_many : {A : Type 0} (es : List (List ℕ × HeldRow A)) → length (as_steps es) ≡ length es
-steps_many [] = refl
-steps_many (e ∷ es) = ap suc (steps_many es)
-
-pub as_many : {A : Type 0} (s : Settings) (history : List (Entry A)) (t : Tables A) → Stands s history t → length t.steps.entries ≡ length (held s (past history))
-as_many s history t st = sym (steps_many t.steps.entries) ∙ ap length (steps_kept s history t st) ∙ by (held s (past history))
-  where
-    by : (us : List (List ℕ)) → length (map (held_step s (past history)) us) ≡ length us
-    by [] = refl
-    by (u ∷ us) = ap suc (by us)
-
 -- A PEER
 
 -- there is a queue at the place of a peer

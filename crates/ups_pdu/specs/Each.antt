@@ -6,8 +6,3 @@ use Rattle.std.specs.Prelude.{◌≡◌, ◌⊎◌, ℕ, List, [], ◌∷◌, Re
 abbrev pub Each : {X : Type 0} → (List ℕ → X → List ℕ → Type 0) → List ℕ → List X → Type 0
 Each Front bytes [] = bytes ≡ []
 Each Front bytes (x ∷ xs) = (rest : List ℕ) × Front bytes x rest × Each Front rest xs
-
--- the result of a reader: what the bytes encode; or a fault that they have, or lack of memory
-abbrev pub Reads : {X E : Type 0} → E → (X → Type 0) → (E → Type 0) → Result X E → Type 0
-Reads memory Spelled Fault (Ok x) = Spelled x
-Reads memory Spelled Fault (Err e) = (e ≡ memory) ⊎ Fault e

@@ -20,10 +20,6 @@ paired [] = []
 paired (h ∷ []) = []
 paired (h ∷ l ∷ ds) = (h * 16 + l) ∷ paired ds
 
--- the bytes that a text spells
-abbrev pub spelled : List ℕ → List ℕ
-spelled text = paired (values text)
-
 -- bytes as a line: the digits of each, in lower case, and a line feed
 abbrev pub hex_line : List ℕ → List ℕ
 hex_line bytes = flat_map (λ byte. encode_lower (byte ∷ [])) bytes ++ 10 ∷ []

@@ -155,8 +155,3 @@ pub walk_fails : {A : Type 0} (s : Settings) (history : List (Entry A)) (i : ℕ
 walk_fails {A} s history i e u before fault low is was on good fails =
     let now : ChangeFails (given s.offset e.moment (state (past (take i history)) u) e.request) fault = subst (λ (r : Row A). ChangeFails (given s.offset e.moment r.state e.request) fault) was fails in
     fails_within s history (i + 1) fault (subst (λ (es : List (Entry A)). WalkFails s es fault) (sym (past_more history i e low is)) (entry_fails s (past (take i history)) e u fault on good now))
-
--- over a legal history memory alone may be wanting
-pub only_memory : {A : Type 0} (s : Settings) (es : List (Entry A)) (fault : ChangeFault) → legal s es ≡ true → WalkFails s es fault → fault ≡ Memory
-only_memory s es TooDeep h f = absurd (differ (legal s es) f h)
-only_memory s es Memory h f = refl

@@ -25,7 +25,3 @@ module _ {A : Type 0} (before : List (Record A)) (h : List (Entry A)) where
       ∙ (ap (λ (rs : List (Record A)). rs ++ map recorded group) was
       ∙ (append_assoc before (map recorded (take i h)) (map recorded group)
       ∙ ap (λ (rs : List (Record A)). before ++ rs) (more.are ∙ ap (λ (k : ℕ). map recorded (take k h)) many)))
-
-  -- all were put
-  pub put_all : (now : List (Record A)) (i : ℕ) → length h ≤ i → now ≡ before ++ map recorded (take i h) → now ≡ before ++ map recorded h
-  put_all now i end was = was ∙ ap (λ (es : List (Entry A)). before ++ map recorded es) (take_all i h end)

@@ -30,20 +30,11 @@ after association established assembly = record { state = association.state; est
 pub after_is : {A : Type 0} (association : AssociationView A) (established : EstablishedView A) (new : Assembly A) (begun : Begun A) → new.ids ≡ established.assembler.ids → new.begun ≡ begun → after association established new ≡ with_begun association established begun
 after_is association established new begun e f = λ i. record { state = association.state; established = Some (record { parameters = established.parameters; assembler = record { ids = e i; begun = f i } }); ending = association.ending }
 
-says_nothing : {A : Type 0} (association : AssociationView A) (effect : Effect A (AwaitedRequest A)) → said_by effect ≡ [] → awaited_by awaited_view effect ≡ None → on_message_effect false association (message_effect (Some effect)) ≡ sending association []
-says_nothing association effect p q = λ i. record { association = association; send = p i; waiting = q i }
-
 abbrev pub fed_on : {A : Type 0} → Option (RawMessage A) → Result (Option (RawMessage A)) AssocFault
 fed_on found = Ok found
 
 abbrev pub fed_not : {A : Type 0} → AssocFault → Result (Option (RawMessage A)) AssocFault
 fed_not e = Err e
-
-pub more_came : {A : Type 0} (offset : ℤ) (association : AssociationView A) (established : EstablishedView A) (f : Fed A) (new : Assembly A) (effect : Effect A (AwaitedRequest A)) → new.ids ≡ established.assembler.ids → Feeds f new.begun (fed_on None) → said_by effect ≡ [] → awaited_by awaited_view effect ≡ None
-    → Continues false offset association established f (on_message_effect false (after association established new) (message_effect (Some effect)))
-more_came offset association established (more b) new effect e is p q = says_nothing (after association established new) effect p q ∙ ap (λ l. sending l []) (after_is association established new b e is)
-more_came offset association established (whole m) new effect e is p q = absurd is
-more_came offset association established (fault why) new effect e is p q = absurd is
 
 -- what a message comes to, where one has come
 abbrev pub OnReply : {A : Type 0} → ℤ → AssociationView A → EstablishedView A → Fed A → Assembly A → Option (Effect A (AwaitedRequest A)) → Type 0
@@ -61,18 +52,6 @@ pub whole_came : {A : Type 0} (offset : ℤ) (established : EstablishedView A) (
 whole_came {A} offset established f new progress message r one e is u =
     let now : Feeds f new.begun (fed_on (Some message)) = subst (λ (o : Option (RawMessage A)). Feeds f new.begun (fed_on o)) one is in
     if_ok r _ _ (λ found h association. understood offset association established f new message found e now h) u
-
-pub fault_came : {A : Type 0} (offset : ℤ) (association : AssociationView A) (established : EstablishedView A) (f : Fed A) (new : Assembly A) (why : AssocFault) → new.ids ≡ established.assembler.ids → Feeds f new.begun (fed_not why) → why ≢ faults.Memory
-    → OnReply offset association established f new None
-fault_came offset association established (more b) new why e is other = absurd (other is.0)
-fault_came offset association established (whole m) new why e is other = absurd (other is.0)
-fault_came offset association established (fault f) new why e is other = ap (aborting false) (after_is association established new Failed e is.1)
-
--- where memory ran out, there was no fault
-pub faultless : {A : Type 0} (f : Fed A) (begun : Begun A) (why : AssocFault) → Feeds f begun (fed_not why) → why ≡ faults.Memory → (other : AssocFault) → f ≡ fault other → other ≡ faults.Memory
-faultless (more b) begun why is lost other e = absurd cc
-faultless (whole m) begun why is lost other e = absurd cc
-faultless (fault f) begun why is lost other e = cc
 
 other_action : {A : Type 0} (offset : ℤ) (association : AssociationView A) (pdv : Pdv A) (action : UlAction) (state : UlState) (reaction : ReactionOf A) → action ≢ Dt2
     → reaction ≡ on_action false unexpected (transition association events.Data action state) action → Indicated false offset association pdv (Some (action, state)) reaction

@@ -43,10 +43,6 @@ front_alone all front there has = front_same has.front all front has.same (has.a
 pub are_behind : (all records : List (Record Global)) (front : Front) → AreBehindSame all front records → AreBehind all front.count records
 are_behind all records front behind = record { front = behind.front; many = behind.same.many; are = behind.are }
 
--- the front of the drafts is what is known of them
-pub known_is : (drafts : List (Record Global)) (front : Front) → AreFront drafts front → AreKnown drafts (Known front)
-known_is drafts front are other is = let e : front ≡ other = cc in subst (λ (f : Front). AreFront drafts f) e are
-
 -- nothing is known of them
 pub nothing_known : (drafts : List (Record Global)) → AreKnown drafts Unknown
 nothing_known drafts front is = cc

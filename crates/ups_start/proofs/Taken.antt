@@ -32,10 +32,6 @@ counted_more : (c : Restoration) (os : List Restored) (o : Restored) → all_cou
 counted_more c [] o = refl
 counted_more c (y ∷ os) o = counted_more (counted_with c y) os o
 
--- none yet
-pub none_taken : {A : Type 0} (s : Settings) (h : List (Entry A)) (may : Bool) (c : Restoration) → c ≡ record { entered = 0; left_out = 0 } → AreTaken s h [] may c h
-none_taken s h may c is = ([], refl, is)
-
 -- one record more
 pub taken_more : {A : Type 0} (s t : Settings) (h : List (Entry A)) (rs : List (Record A)) (may : Bool) (r : Record A) (now then : List (Entry A)) (c d : Restoration) (o : Restored)
     → t ≡ s → AreTaken s h rs may c now → Becomes t now r may o then → d ≡ counted_with c o → AreTaken s h (rs ++ r ∷ []) may d then

@@ -55,11 +55,6 @@ first_dropped number (row ∷ rows) id table h =
     let equal : value_cmp (rowid row) (Int id) ≡ Equal = ap (λ (v : Value). value_cmp v (Int id)) is ∙ same_id (Int id) in
     rw (equal, h) (ap (last_runs number) (stay (rowid row) id rows is table.0))
 
--- no row goes if the first is not old
-pub none_dropped : (number : ℕ) (rows : List Row) → first_old number rows ≡ None → rows ≡ last_runs number rows
-none_dropped number [] h = refl
-none_dropped number (row ∷ rows) h = rw h refl
-
 -- the first run was old, and is deleted
 pub drops_one : (old mid new : View) (number : ℕ) (id : ℤ) → mid ≡ record old { cursors = mid.cursors } → old.is_broken ≡ false → IsTable (old.trees 1) → first_old number (old.trees 1) ≡ Some id → SetsTree mid new 1 (without_rowid id) → DropsRuns old new number true
 drops_one old mid new number id same sound table first sets =

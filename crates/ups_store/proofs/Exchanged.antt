@@ -157,12 +157,3 @@ pub says_exchanged : (old mid : View) (t count n : ℕ) (row : Row) → Holds ol
 says_exchanged old mid t count n row h has ex =
     let rows = rows_kept old mid t (2 - t) row (low_other t (low_from _ t h.tabled)) ex in
     (requests_after old mid t count row h ex, numbered_at mid.trees (2 - t) ex.tabled (subst IsNumbered (sym rows) has.adding.numbered))
-
-pub stands_through : (a b c : View) → KeepsLastCommit a b → KeepsLastCommit b c → KeepsLastCommit a c
-stands_through a b c h k = record {
-  shape = k.shape ∙ h.shape;
-  reals = k.reals ∙ h.reals;
-  numbered = k.numbered ∙ h.numbered;
-  was_open = λ up. h.was_open (k.was_open up);
-  committed = λ up. k.committed up ∙ h.committed (k.was_open up);
-}

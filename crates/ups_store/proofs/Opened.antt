@@ -150,20 +150,6 @@ none_of_format old new format (pages, was, now) only none (other, held) =
     let h = subst (HoldsAs old) (only other held) held in
     none (h.0, subst (Recovers used_page new) (pages_once used_page old pages h.0 was h.1) now, h.2)
 
-roots_none : (format : Format) (pages : PageMap) → rows_at used_page pages Table 1 ≡ [] → roots_of used_page (tables_of format) pages ≡ 0 ∷ (0 ∷ map (root_in []) (last_tables format))
-unfolding roots_of
-roots_none format pages none = ap (λ (rows : List Row). roots_in rows (tables_of format)) none
-
-owns_root : (layout : Layout) (root : ℕ) → IsKept used_page layout Table root → root ≡ 0 → Owns layout 0
-owns_root layout root (rows, table, each) is = inl (subst (λ (n : ℕ). layout.nodes n ≢ []) is (stored_root_live table.stored))
-
--- Tables that are not listed would have one root.
-none_kept : (format : Format) (pages : PageMap) → rows_at used_page (in_use used_page pages) Table 1 ≡ [] → ¬ IsFile used_page (tables_of format) pages
-none_kept format pages none file =
-    let roots = roots_none format (in_use used_page pages) none in
-    let trees = file.db.trees in
-    trees.apart 1 2 0 (λ (e : 1 ≡ 2). omega (arith, e)) (owns_root (file.db.layouts 1) _ (trees.kept 1) (ap (λ (r : List ℕ). slice_index r 0) roots)) (owns_root (file.db.layouts 2) _ (trees.kept 2) (ap (λ (r : List ℕ). slice_index r 1) roots))
-
 -- the rows under which a store of this format lists its tables
 entries_in : (format : Format) (pages : PageMap) (rows : List Row) → rows ≡ entries_of 1 (tables_of format) (roots_of used_page (tables_of format) pages) → format ≡ format_in rows
 unfolding roots_of sql_of
@@ -207,9 +193,6 @@ module _ {D : Type 0} {g : Ghosts D} where
 
   pub clean_files : (it : Unopened D g) (log db : D) → files_of it ≡ (log, db) → IsTrue (state_of it).is_clean → AreClean g log db
   clean_files it log db is clean = ap (λ (f : D × D). are_clean g f.0 f.1) (sym is) ∙ sym (pool_clean it.pool) ∙ clean
-
-  pub seen_in : (it : Unopened D g) (log db log2 db2 : D) → files_of it ≡ (log2, db2) → OnlyReads g log log2 → OnlyReads g db db2 → image it ≡ seen_image g log db
-  seen_in it log db log2 db2 is a b = ap (λ (f : D × D). seen_image g f.0 f.1) is ∙ ap (λ (l : List ℕ). let i : Image = record { log = l; db = g.seen db2 } in i) a.seen ∙ ap (λ (d : List ℕ). let i : Image = record { log = g.seen log; db = d } in i) b.seen
 
   pool_faults : (it : Pool D g) → (below.state it).faults ≡ g.faults (below.files it).0 + g.faults (below.files it).1
   unfolding below.state files

@@ -27,15 +27,6 @@ use Rattle.ups_store.specs.Held.{Holds, HoldsIfOpen}
 use Rattle.ups_store.specs.Upgrading.{ListsRuns, AddsTrees, AddsDraft, ListsAnew, KeepsLastCommit, CannotDraft}
 use Rattle.ups_store.proofs.Steps.{adding_as, later_cause}
 
-pub stands_set : (old new : View) (tree : ℕ) (edit : List Row → List Row) → SetsTree old new tree edit → KeepsLastCommit old new
-stands_set old new tree edit sets = record {
-  shape = ap (λ (v : View). v.committed_shape) sets.is;
-  reals = ap (λ (v : View). v.committed_reals) sets.is;
-  numbered = ap (λ (v : View). v.is_numbered) sets.is;
-  was_open = λ up. sym (ap (λ (v : View). v.is_open) sets.is) ∙ up;
-  committed = λ up. ap (λ (v : View). v.committed) sets.is;
-}
-
 -- a transaction that is rolled back leaves what was committed
 pub undone : (old mid new : View) → IsClean new → KeepsLastCommit old mid → IsRolledBack mid new → IsTrue new.is_open → IsTrue old.is_open × (new.committed ≡ old.committed)
 undone old mid new clean stands back up =

@@ -4,12 +4,12 @@ use Rattle.std.specs.declared.alloc.Global.{Global}
 use Rattle.sqlite_value.specs.declared.value.Value.TheVariants.{Text}
 use Rattle.ups_cycle.specs.declared.state.StepState.{StepState}
 use Rattle.ups_cycle.specs.declared.state.StepState.TheVariants.{Scheduled, InProgress, Completed, Canceled}
-use Rattle.ups_journal.specs.Operations.{name_of}
+use Rattle.ups_journal.specs.Operations.{name_of, operation_named}
 use Rattle.ups_journal.specs.declared.operation.RecordedOperation.{RecordedOperation}
 use Rattle.ups_journal.specs.declared.operation.RecordedOperation.TheVariants.{Create, Change, AskCancel, Set, Subscribe, Unsubscribe, Suspend, Acknowledge, Sweep, Reserve}
 use Rattle.ups_journal.specs.declared.record.Columns.{Columns}
 use Rattle.ups_store.specs.declared.request.StoredRequest.{StoredRequest}
-use Rattle.ups_store.specs.Words.{operation_named, state_named}
+use Rattle.ups_store.specs.Words.{state_named}
 use Rattle.ups_store.specs.Cells.{number_cell, number_in, text_cell, blob_cell, bytes_in, state_cell, state_in, operation_in}
 use Rattle.ups_store.specs.Rows.{request_row, columns_in, request_in, IsReadAgain}
 

@@ -6,9 +6,10 @@ use Rattle.sqlite_value.specs.declared.value.Value.TheVariants.{Null, Int, Text,
 use Rattle.sqlite_value.specs.Order.{bytes}
 use Rattle.ups_cycle.specs.States.{state_text}
 use Rattle.ups_cycle.specs.declared.state.StepState.{StepState}
+use Rattle.ups_journal.specs.Operations.{operation_named}
 use Rattle.ups_journal.specs.declared.operation.RecordedOperation.{RecordedOperation}
 use Rattle.ups_journal.specs.declared.operation.RecordedOperation.TheVariants.{Create}
-use Rattle.ups_store.specs.Words.{operation_named, state_named}
+use Rattle.ups_store.specs.Words.{state_named}
 
 -- a number of 64 bits; one of 2^63 or more is stored as a negative integer
 abbrev pub number_cell : ℕ → Value

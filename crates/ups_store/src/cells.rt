@@ -6,7 +6,7 @@ ghost use Rattle.sqlite_value.specs.Value.{owned};
 ghost use Rattle.sqlite_value.specs.Order.{bytes};
 ghost use Rattle.ups_store.specs.Cells.{number_cell, number_in, short_in, event_cell, event_in, lock_cell, lock_in_cell, offset_cell, offset_in, text_cell, blob_cell, bytes_in, state_cell, state_in, operation_in};
 
-use crate::words::{operation_named, state_named};
+use crate::words::state_named;
 use sqlite_value::row::Row;
 use sqlite_value::value::ValueRef;
 use std::alloc::{AllocError, Global};
@@ -190,5 +190,5 @@ pub(crate) fn state_in(cell: ValueRef<'_>) -> Option<StepState>
 pub(crate) fn operation_in(cell: ValueRef<'_>) -> RecordedOperation
     ensures { result ≡ operation_in (owned cell.entry) }
 {
-    operation_named(lent(cell)).unwrap_or(RecordedOperation::Create)
+    RecordedOperation::named(lent(cell)).unwrap_or(RecordedOperation::Create)
 }

@@ -244,10 +244,6 @@ steps_same {A} s e es none = at e.request none
     at r h = absurd cc
 
 -- a sweep leaves what is held of the steps that it doesn't remove
-filter_as : {X : Type 0} (p q : X → Bool) (xs : List X) → ((x : X) → p x ≡ q x) → filter p xs ≡ filter q xs
-filter_as p q [] h = refl
-filter_as p q (x ∷ xs) h = ap (λ b. cond b (x ∷ filter p xs) (filter p xs)) (h x) ∙ ap (λ l. cond (q x) (x ∷ l) l) (filter_as p q xs h)
-
 left : {A : Type 0} (s : Settings) (es : List (Entry A)) (p : List ℕ → Bool) (us : List (List ℕ)) → filter (λ (h : HeldStep A). p h.step) (map (held_step s es) us) ≡ map (held_step s es) (filter p us)
 left s es p [] = refl
 left {A} s es p (v ∷ vs) = at (p v) (left s es p vs)

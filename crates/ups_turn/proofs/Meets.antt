@@ -30,11 +30,6 @@ all_map P Q f (x ∷ xs) h q = All-cons P (f x) (map f xs) (h x (All-head Q x xs
 all_same : {X : Type 0} (P Q : X → Type 0) (xs : List X) → ((x : X) → P x → Q x) → All P xs → All Q xs
 all_same P Q xs f p k d lt = f _ (p k d lt)
 
--- two beginnings of one another are the same
-same_length : {X : Type 0} (xs ys rest : List X) → xs ++ rest ≡ ys → length ys ≤ length xs → xs ≡ ys
-same_length xs ys [] e h = sym (append-nil xs) ∙ e
-same_length xs ys (r ∷ rs) e h = absurd (let l = ap length e in omega (arith, length-append xs (r ∷ rs)))
-
 module _ {A : Type 0} where
   length_caught : (notes : List (List (Entry A))) (ps : List (Part A)) → length (map (catching_up notes) ps) ≡ length ps
   length_caught notes [] = refl
@@ -273,11 +268,3 @@ module _ {A : Type 0} where
       at : (b : Bool) → nat_lt (length seen) (length seen') ≡ b → max (length seen) (length seen') ≡ length (cond b seen' seen)
       at true is = let lt : length seen < length seen' = grind (arith, nat_tests) in omega arith
       at false is = let le : length seen' ≤ length seen = grind (arith, nat_tests) in omega arith
-
-  -- after each has told the other, both have seen the same
-  pub met : (seen right : List (Entry A)) → BeginsHistory seen right → longer seen right ≡ right
-  met seen right b = at (nat_lt (length seen) (length right)) refl
-    where
-      at : (c : Bool) → nat_lt (length seen) (length right) ≡ c → cond c right seen ≡ right
-      at true is = refl
-      at false is = let le : length right ≤ length seen = grind (arith, nat_tests) in same_length seen right b.0 b.1 le
