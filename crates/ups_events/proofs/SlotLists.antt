@@ -1,7 +1,7 @@
 -- What holds of slots as events come and go.
 use Rattle.std.proofs.Common.{◌≡◌, ◌<◌, ◌≤◌, ◌+◌, ℕ, zero, suc, Bool, true, false, cond, not, ◌&&◌, ◌||◌, leb, List, [], ◌∷◌, ◌++◌, Option, None, Some, map, filter, length, get_or, refl, sym, ap, ◌∙◌, subst, inl, inr, arith, true≢false, leb-true, leb-false, lt-ltb, le-ltb, ◌⊎◌}
 use Rattle.std.specs.Prelude.{is_some}
-use Rattle.std.proofs.Common.{take, drop, length-append}
+use Rattle.std.proofs.Common.{set, take, drop, length-append}
 use Rattle.std.proofs.lemmas.List.{take-append-drop, take_all, take-append-le, take_more}
 use Rattle.std.specs.List.{AllByRecursion}
 use Rattle.std.specs.Map.{lookup}
@@ -186,7 +186,7 @@ lives_spent u (s ∷ ss) = by (lives_spent u ss) (is_report_of u s.event) refl s
         ∙ sym (ap (λ (b : Bool). cond (not b) (s.event ∷ filter (λ y. not (is_report_of u y)) (lives ss)) (filter (λ y. not (is_report_of u y)) (lives ss))) e) ∙ sym (ap (λ (l : Bool). filter (λ y. not (is_report_of u y)) (cond l (s.event ∷ lives ss) (lives ss))) f)
     by rest false e false f = ap (λ (b : Bool). head (cond b (record { event = s.event; live = false }) s)) e ∙ ap (λ (l : Bool). cond l (s.event ∷ lives (map (spent u) ss)) (lives (map (spent u) ss))) f ∙ rest ∙ sym (ap (λ (l : Bool). filter (λ y. not (is_report_of u y)) (cond l (s.event ∷ lives ss) (lives ss))) f)
 
-lives_push : (ss : List EventSlot) (s : EventSlot) → s.live ≡ true → lives (ss ++ s ∷ []) ≡ lives ss ++ s.event ∷ []
+pub lives_push : (ss : List EventSlot) (s : EventSlot) → s.live ≡ true → lives (ss ++ s ∷ []) ≡ lives ss ++ s.event ∷ []
 lives_push [] s e = ap (λ (b : Bool). cond b (s.event ∷ []) []) e
 lives_push (t ∷ ss) s e = by (lives_push ss s e) t.live
   where
@@ -334,14 +334,6 @@ found_more ss i max s found within is so_far less = (
   let n = length-append found (lives (s ∷ [])) in let m = one_at_most s in omega (arith, n, m, less),
 )
 
--- one slot more, counted
-pub counted_more : (ss : List EventSlot) (i count : ℕ) (s : EventSlot) → i < length ss → s ≡ get_or ss i s → count ≡ length (lives (take i ss)) → count ≤ i
-    → (count + length (lives (s ∷ [])) ≡ length (lives (take (i + 1) ss))) × (count + length (lives (s ∷ [])) ≤ i + 1)
-counted_more ss i count s within is so_far most =
-    let all : lives (take i ss) ++ lives (s ∷ []) ≡ lives (take (i + 1) ss) = sym (lives_append (take i ss) (s ∷ [])) ∙ ap (λ (t : EventSlot). lives (take i ss ++ t ∷ [])) is ∙ ap lives (sym (take_more ss i s within)) in
-    let m = one_at_most s in
-    (ap (λ (k : ℕ). k + length (lives (s ∷ []))) so_far ∙ sym (length-append (lives (take i ss)) (lives (s ∷ []))) ∙ ap length all, omega (arith, m, most))
-
 -- the index in another order
 pub keeps_same : (made acked : ℕ) (index new : List (List ℕ × ℕ)) (ss more : List EventSlot) → ((q : List ℕ) → lookup (bytes_eq q) new ≡ lookup (bytes_eq q) index) → more ≡ ss → KeepsQueue made acked index ss → KeepsQueue made acked new more
 keeps_same made acked index new ss more same is k = subst (KeepsQueue made acked new) (sym is) (record { rising = k.rising; up_to = k.up_to; indexed = again ss k.indexed })
@@ -349,3 +341,35 @@ keeps_same made acked index new ss more same is k = subst (KeepsQueue made acked
     again : (ss : List EventSlot) → Indexed index ss → Indexed new ss
     again [] h = tt
     again (s ∷ ss) h = (λ live r. same s.event.step ∙ h.0 live r, again ss h.1)
+
+-- HOW MANY ARE LIVE
+
+-- one slot more in front
+pub count_first : (s : EventSlot) (ss : List EventSlot) → cond s.live 1 0 + length (lives ss) ≡ length (lives (s ∷ ss))
+count_first s ss = by s.live
+  where
+    by : (l : Bool) → cond l 1 0 + length (lives ss) ≡ length (cond l (s.event ∷ lives ss) (lives ss))
+    by true = omega arith
+    by false = omega arith
+
+-- there are no more than slots
+pub count_within : (ss : List EventSlot) → length (lives ss) ≤ length ss
+count_within [] = omega arith
+count_within (s ∷ ss) = by s.live (count_within ss)
+  where
+    by : (l : Bool) → length (lives ss) ≤ length ss → length (cond l (s.event ∷ lives ss) (lives ss)) ≤ length (s ∷ ss)
+    by true rest = omega (arith, rest)
+    by false rest = omega (arith, rest)
+
+-- one slot is spent
+pub count_set : (ss : List EventSlot) (k : ℕ) (s : EventSlot) → k < length ss → s ≡ get_or ss k s → cond s.live 1 0 + length (lives (set ss k (record { event = s.event; live = false }))) ≡ length (lives ss)
+count_set [] k s within is = absurd (omega (arith, within))
+count_set (t ∷ ss) zero s within is = subst (λ (q : EventSlot). cond q.live 1 0 + length (lives ss) ≡ length (lives (t ∷ ss))) (sym is) (count_first t ss)
+count_set (t ∷ ss) (suc k) s within is = by t.live (count_set ss k s (omega (arith, within)) is)
+  where
+    rest : List Event
+    rest = lives (set ss k (record { event = s.event; live = false }))
+
+    by : (l : Bool) → cond s.live 1 0 + length rest ≡ length (lives ss) → cond s.live 1 0 + length (cond l (t.event ∷ rest) rest) ≡ length (cond l (t.event ∷ lives ss) (lives ss))
+    by true one = omega (arith, one)
+    by false one = omega (arith, one)

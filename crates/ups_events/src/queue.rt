@@ -8,8 +8,8 @@ ghost use Rattle.ups_events.specs.Telling.{event_of};
 
 use crate::fault::AckFault;
 use crate::slots::{
-    EventSlot, ReportNumbers, counted, drop_front, first_live, is_among, keeps_order, live_count,
-    make_way, tidy,
+    EventSlot, ReportNumbers, drop_front, first_live, is_among, keeps_order, live_with, make_way,
+    tidy,
 };
 use std::alloc::{AllocError, Allocator};
 use std::collections::{HashMap, VecDeque};
@@ -29,8 +29,8 @@ pub struct Queue<A: Allocator + Copy> {
     /// Whether the entries are known not to fall from slot to slot. It is always so where events are added in the order
     /// of the history.
     in_order: bool,
-    /// An upper bound of the number of spent slots.
-    spent: usize,
+    /// The number of live events.
+    live: usize,
 }
 
 impl<A: Allocator + Copy> Drop for Queue<A> {
@@ -42,13 +42,13 @@ impl<A: Allocator + Copy> Drop for Queue<A> {
             slots: _,
             index: _,
             in_order: _,
-            spent: _,
+            live: _,
         } = self;
     }
 }
 
 impl<A: Allocator + Copy> Model for Queue<A> {
-    ghost use Rattle.std.specs.Prelude.{◌≡◌, ◌-◌, ◌^◌, ◌≤◌, true, min};
+    ghost use Rattle.std.specs.Prelude.{◌≡◌, ◌-◌, ◌^◌, ◌≤◌, true, length, min};
     ghost use Rattle.std.specs.HashMap.{spare};
     ghost use Rattle.std.specs.VecDeque.{deque_len, deque_capacity};
     ghost use Rattle.ups_events.specs.Queue.{QueueView};
@@ -59,7 +59,7 @@ impl<A: Allocator + Copy> Model for Queue<A> {
 
     ghost view = { λ q. record { made = q.made; acked = q.acked; events = lives q.slots.items; spare = min (deque_capacity q.slots - deque_len q.slots) (min (spare q.index) (2 ^ 64 - 1 - q.made)) } };
 
-    ghost invariant = { λ q. KeepsQueue q.made q.acked q.index.entries q.slots.items × (q.acked ≤ q.made) × (q.in_order ≡ true → InOrder q.slots.items) };
+    ghost invariant = { λ q. KeepsQueue q.made q.acked q.index.entries q.slots.items × (q.acked ≤ q.made) × (q.in_order ≡ true → InOrder q.slots.items) × (q.live ≡ length (lives q.slots.items)) };
 }
 
 impl<A: Allocator + Copy> Queue<A> {
@@ -76,7 +76,7 @@ impl<A: Allocator + Copy> Queue<A> {
             slots: VecDeque::new(alloc),
             index: HashMap::new(alloc),
             in_order: true,
-            spent: 0,
+            live: 0,
         }
     }
 
@@ -118,7 +118,7 @@ impl<A: Allocator + Copy> Queue<A> {
             slots,
             index,
             in_order,
-            spent,
+            live,
             ..
         } = self;
         let number = *made + 1;
@@ -136,8 +136,9 @@ impl<A: Allocator + Copy> Queue<A> {
             live: true,
         });
         *made = number;
+        *live = live_with(*live, superseded);
         drop_front(slots, index, *acked);
-        *spent = tidy(slots, counted(*spent, superseded));
+        tidy(slots, *live);
     }
 
     /// Returns the greatest number assigned, or 0 if there is none.
@@ -165,11 +166,11 @@ impl<A: Allocator + Copy> Queue<A> {
         first_live(self.alloc, &self.slots, max)
     }
 
-    /// Returns the number of pending events (PS3.4 CC.2.4). It takes no memory.
+    /// Returns the number of pending events (PS3.4 CC.2.4).
     pub fn waiting(&self) -> usize
         ensures { result ≡ length self.now.events }
     {
-        live_count(&self.slots)
+        self.live
     }
 
     /// Returns whether an event of the entry at an index of the history may be pending. If it returns false, none is. It
@@ -202,9 +203,10 @@ impl<A: Allocator + Copy> Queue<A> {
             acked,
             slots,
             index,
+            live,
             ..
         } = self;
-        drop_front(slots, index, upto);
+        *live -= drop_front(slots, index, upto);
         *acked = upto;
         Ok(())
     }

@@ -43,23 +43,31 @@ fn is_report_of(step: StepUid, event: &Event) -> bool
     event.step.as_bytes() == step.as_bytes() && is_state_report(event.kind)
 }
 
-/// Marks the State Report of a step, whose number is known, as spent if it is still there.
-fn spend<A: Allocator + Copy>(slots: &mut VecDeque<EventSlot, A>, number: u64, step: StepUid)
+/// Marks the State Report of a step, whose number is known, as spent if it is still there. Returns whether it was live.
+fn spend<A: Allocator + Copy>(
+    slots: &mut VecDeque<EventSlot, A>,
+    number: u64,
+    step: StepUid,
+) -> bool
     requires rises { Rises slots.old.items }
     requires alone { (i : ℕ) → (d : EventSlot) → i < length slots.old.items → (slice_index_or slots.old.items i d).live ≡ true → is_report_of step (slice_index_or slots.old.items i d).event ≡ true → (slice_index_or slots.old.items i d).event.number ≡ number }
     ensures slots { slots.new.items ≡ map (spent step) slots.old.items }
+    ensures count { (if result then 1 else 0) + length (lives slots.new.items) ≡ length (lives slots.old.items) }
     ensures len { deque_len slots.new ≡ deque_len slots.old }
     ensures capacity { deque_capacity slots.new ≡ deque_capacity slots.old }
 {
     let place = slots.partition_point(|slot| slot.event.number < number);
     if let Some(slot) = slots.get_mut(place) {
         if is_report_of(step, &slot.event) {
+            let was_live = slot.live;
             slot.live = false;
+            return was_live;
         }
     }
+    false
 }
 
-/// Sets the number of a step's new State Report, and marks the previous one as spent. Returns whether there was one.
+/// Sets the number of a step's new State Report, and marks the previous one as spent. Returns whether one was live.
 fn supersede<A: Allocator + Copy>(
     slots: &mut VecDeque<EventSlot, A>,
     index: &mut ReportNumbers<A>,
@@ -70,6 +78,7 @@ fn supersede<A: Allocator + Copy>(
     requires indexed { Indexed index.old.entries slots.old.items }
     requires room { 0 < spare index.old }
     ensures slots { slots.new.items ≡ map (spent step) slots.old.items }
+    ensures count { (if result then 1 else 0) + length (lives slots.new.items) ≡ length (lives slots.old.items) }
     ensures len { deque_len slots.new ≡ deque_len slots.old }
     ensures capacity { deque_capacity slots.new ≡ deque_capacity slots.old }
     ensures index { (u : List ℕ) → get bytes_eq index.new u ≡ (if bytes_eq step u then Some number else get bytes_eq index.old u) }
@@ -79,16 +88,13 @@ fn supersede<A: Allocator + Copy>(
         unreachable!();
     };
     match earlier {
-        Some(earlier) => {
-            spend(slots, earlier, step);
-            true
-        }
+        Some(earlier) => spend(slots, earlier, step),
         None => false,
     }
 }
 
 /// Makes way for an event of this kind and number: a State Report supersedes the previous one of its step. Returns
-/// whether there was one.
+/// whether one was live.
 pub(crate) fn make_way<A: Allocator + Copy>(
     slots: &mut VecDeque<EventSlot, A>,
     index: &mut ReportNumbers<A>,
@@ -100,6 +106,7 @@ pub(crate) fn make_way<A: Allocator + Copy>(
     requires indexed { Indexed index.old.entries slots.old.items }
     requires room { 0 < spare index.old }
     ensures slots { slots.new.items ≡ made_way kind step slots.old.items }
+    ensures count { (if result then 1 else 0) + length (lives slots.new.items) ≡ length (lives slots.old.items) }
     ensures len { deque_len slots.new ≡ deque_len slots.old }
     ensures capacity { deque_capacity slots.new ≡ deque_capacity slots.old }
     ensures index { (u : List ℕ) → get bytes_eq index.new u ≡ (if is_state_report kind && bytes_eq step u then Some number else get bytes_eq index.old u) }
@@ -155,22 +162,35 @@ fn forget<A: Allocator + Copy>(index: &mut ReportNumbers<A>, slot: &EventSlot)
     }
 }
 
-/// Drops the slots at the front that can go: the spent ones, and those of the events up to a number.
+/// Returns a count, and one more if a slot is live.
+fn one_more_if_live(count: usize, slot: &EventSlot) -> usize
+    requires { count < 2 ^ 64 - 1 }
+    ensures { result ≡ (if slot.now.live then 1 else 0) + count }
+{
+    if slot.live { count + 1 } else { count }
+}
+
+/// Drops the slots at the front that can go: the spent ones, and those of the events up to a number. Returns how many of
+/// them were live.
 pub(crate) fn drop_front<A: Allocator + Copy>(
     slots: &mut VecDeque<EventSlot, A>,
     index: &mut ReportNumbers<A>,
     upto: u64,
-)
+) -> usize
     ensures slots { slots.new.items ≡ dropped upto slots.old.items }
+    ensures count { result + length (lives slots.new.items) ≡ length (lives slots.old.items) }
     ensures keeps { (made : ℕ) → (acked : ℕ) → KeepsQueue made acked index.old.entries slots.old.items → KeepsQueue made acked index.new.entries slots.new.items }
     ensures len { deque_len slots.new ≤ deque_len slots.old }
     ensures capacity { deque_capacity slots.new ≡ deque_capacity slots.old }
     ensures spare { spare index.old ≤ spare index.new }
 {
+    let mut count = 0;
     while let Some(slot) = going(slots, upto) {
         slots.pop_front();
         forget(index, &slot);
+        count = one_more_if_live(count, &slot);
     }
+    count
 }
 
 /// Drops the spent slots.
@@ -182,27 +202,25 @@ fn compact<A: Allocator + Copy>(slots: &mut VecDeque<EventSlot, A>)
     slots.retain(|slot| slot.live);
 }
 
-/// Returns an upper bound of the number of spent slots after an event was added, from the bound before it.
-pub(crate) fn counted(spent: usize, superseded: bool) -> usize {
-    if superseded {
-        spent.saturating_add(1)
-    } else {
-        spent
-    }
+/// Returns the number of live events behind an event that was added, from the number before it.
+pub(crate) fn live_with(live: usize, superseded: bool) -> usize
+    requires few { live < 2 ^ 64 - 1 }
+    requires had { (if superseded then 1 else 0) ≤ live }
+    ensures { (if superseded then 1 else 0) + result ≡ live + 1 }
+{
+    if superseded { live } else { live + 1 }
 }
 
-/// Drops the spent slots, of which there are at most `spent`, if they may exceed a quarter of all slots by `SPENT_LEFT`.
-/// Returns an upper bound of the number of spent slots then.
-pub(crate) fn tidy<A: Allocator + Copy>(slots: &mut VecDeque<EventSlot, A>, spent: usize) -> usize
+/// Drops the spent slots if there are more of them than `SPENT_LEFT` and a quarter of all slots. The others are live.
+pub(crate) fn tidy<A: Allocator + Copy>(slots: &mut VecDeque<EventSlot, A>, live: usize)
     ensures slots { (slots.new.items ≡ slots.old.items) ⊎ (slots.new.items ≡ filter is_live slots.old.items) }
     ensures len { deque_len slots.new ≤ deque_len slots.old }
     ensures capacity { deque_capacity slots.new ≡ deque_capacity slots.old }
 {
-    if spent < SPENT_LEFT || spent - SPENT_LEFT < slots.len() / 4 {
-        return spent;
+    let spent = slots.len().saturating_sub(live);
+    if spent >= SPENT_LEFT && spent - SPENT_LEFT >= slots.len() / 4 {
+        compact(slots);
     }
-    compact(slots);
-    0
 }
 
 /// Adds the event of a slot, unless it is spent.
@@ -250,23 +268,4 @@ pub(crate) fn is_among<A: Allocator + Copy>(slots: &VecDeque<EventSlot, A>, entr
         Some(slot) => slot.event.entry == entry,
         None => false,
     }
-}
-
-/// Returns a count, and one more if a slot is live.
-fn one_more_if_live(count: usize, slot: &EventSlot) -> usize
-    requires { count < 2 ^ 64 - 1 }
-    ensures { result ≡ count + length (lives (slot.now ∷ [])) }
-{
-    if slot.live { count + 1 } else { count }
-}
-
-/// Returns the number of live events.
-pub(crate) fn live_count<A: Allocator + Copy>(slots: &VecDeque<EventSlot, A>) -> usize
-    ensures { result ≡ length (lives slots.now.items) }
-{
-    let mut count = 0;
-    for place in 0..slots.len() {
-        count = one_more_if_live(count, &slots[place]);
-    }
-    count
 }

@@ -3,6 +3,8 @@ use Rattle.std.proofs.lemmas.List.{set-get_or}
 use Rattle.std.proofs.lemmas.List.Sorted.{IsPartitionPoint-from_clause, IsPartitionedBy-ltb}
 use Rattle.ups_events.specs.declared.slots.EventSlot.{EventSlot}
 use Rattle.ups_events.proofs.Spending.{rises_by, none_spent, one_spent, none_but_here, none_at_all, none_if_not_here}
+use Rattle.ups_events.specs.Kept.{lives}
+use Rattle.ups_events.proofs.SlotLists.{count_set}
 use Rattle.ups_events.proofs.slots.spend.Goals as goal
 
 pub returns-then-is_report_of-clause-slots : goal.returns-then-is_report_of-clause-slots
@@ -30,3 +32,15 @@ returns-in_default-clause-slots g c =
     let past : length c.args.slots.now.items ≤ c.partition_point-place.result = search rules in
     none_spent c.args.step c.args.slots.now.items
     (none_at_all c.args.step c.args.number c.args.slots.now.items c.requires.rises c.partition_point-place.result c.requires.alone (λ i d a l. ltb-true _ _ (point.0 i d (omega arith) a)) (λ i d a l. ltb-false _ _ (point.1 i d a l)) past)
+
+pub returns-then-is_report_of-clause-count : goal.returns-then-is_report_of-clause-count
+returns-then-is_report_of-clause-count g c =
+    let within : c.partition_point-place.result < length c.args.slots.now.items = search rules in
+    let is : c.in-Some.slot.now ≡ get_or c.args.slots.now.items c.partition_point-place.result c.in-Some.slot.now = search rules in
+    count_set c.args.slots.now.items c.partition_point-place.result c.in-Some.slot.now within is
+
+pub returns-else-is_report_of-clause-count : goal.returns-else-is_report_of-clause-count
+returns-else-is_report_of-clause-count g c =
+    let is : c.in-Some.slot.now ≡ get_or c.args.slots.now.items c.partition_point-place.result c.in-Some.slot.now = search rules in
+    let same = ap (λ ss. length (lives ss)) (ap (set c.args.slots.now.items c.partition_point-place.result) is ∙ set-get_or c.args.slots.now.items c.partition_point-place.result c.in-Some.slot.now) in
+    omega (arith, same)

@@ -9,7 +9,7 @@ pub invariant_of-self : goal.invariant_of-self
 invariant_of-self g c =
     let inside = c.self.inside in
     let k = c.drop_front.ensures.keeps inside.made inside.acked c.self.invariant.0 in
-    (record { rising = subst (Rising c.args.upto) (sym c.drop_front.ensures.slots) (dropped_rising c.args.upto inside.acked inside.slots.items c.self.invariant.0.rising); up_to = k.up_to; indexed = k.indexed }, search rules, λ known. subst InOrder (sym c.drop_front.ensures.slots) (order_dropped c.args.upto inside.slots.items (c.self.invariant.2 known)))
+    (record { rising = subst (Rising c.args.upto) (sym c.drop_front.ensures.slots) (dropped_rising c.args.upto inside.acked inside.slots.items c.self.invariant.0.rising); up_to = k.up_to; indexed = k.indexed }, search rules, λ known. subst InOrder (sym c.drop_front.ensures.slots) (order_dropped c.args.upto inside.slots.items (c.self.invariant.2 known)), let gone = c.drop_front.ensures.count in let was = c.self.invariant.3 in omega (arith, gone, was))
 
 pub returns-clause-acked : goal.returns-clause-acked
 returns-clause-acked g c =

@@ -1,11 +1,11 @@
-use Rattle.std.proofs.Common.{arith, ◌≡◌, ◌+◌, ◌++◌, ◌∷◌, [], true, sym, ap, ◌∙◌, subst, refl}
+use Rattle.std.proofs.Common.{rules, arith, ◌≡◌, ◌+◌, ◌++◌, ◌∷◌, [], true, length, length-append, sym, ap, ◌∙◌, subst, refl}
 use Rattle.ups_life.specs.declared.event.Event.{Event}
 use Rattle.ups_events.specs.declared.slots.EventSlot.{EventSlot}
 use Rattle.ups_events.specs.Queue.{QueueView, added}
 use Rattle.ups_events.specs.Telling.{event_of}
 use Rattle.ups_events.specs.Kept.{lives, made_way, dropped, InOrder, KeepsQueue}
 use Rattle.ups_events.proofs.Orders.{order_made_way, order_dropped, order_tidy}
-use Rattle.ups_events.proofs.SlotLists.{rises_from, put_keeps, tidy_keeps, lives_dropped, all_above, lives_put, lives_tidy}
+use Rattle.ups_events.proofs.SlotLists.{rises_from, put_keeps, tidy_keeps, lives_dropped, all_above, lives_put, lives_push, lives_tidy, count_within}
 use Rattle.ups_events.proofs.queue.Queue.put.Goals as goal
 
 pub make_way-superseded-requires-clause-rises : goal.make_way-superseded-requires-clause-rises
@@ -13,6 +13,9 @@ make_way-superseded-requires-clause-rises g c = rises_from c.self.inside.acked c
 
 pub keeps_order-requires : goal.keeps_order-requires
 keeps_order-requires g c known = subst InOrder (sym c.make_way-superseded.ensures.slots) (order_made_way c.args.report.kind c.args.report.step c.self.inside.slots.items (c.self.invariant.2 known))
+
+pub live_with-requires-clause-few : goal.live_with-requires-clause-few
+live_with-requires-clause-few g c = let most = count_within c.self.inside.slots.items in let was = c.self.invariant.3 in search (rules, most, was)
 
 pub invariant_of-self : goal.invariant_of-self
 invariant_of-self g c =
@@ -26,6 +29,18 @@ invariant_of-self g c =
       omega (arith, c.self.invariant.1),
       λ known. order_tidy c.drop_front.new.slots.items c.tidy.new.slots.items c.tidy.ensures.slots
           (subst InOrder (sym (c.drop_front.ensures.slots ∙ ap (dropped inside.acked) c.push_back_reserved.ensures.items)) (order_dropped inside.acked (c.make_way-superseded.new.slots.items ++ slot ∷ []) (c.keeps_order.ensures known slot refl))),
+      (
+          let r : KeepsQueue (inside.made + 1) inside.acked c.make_way-superseded.new.index.entries c.push_back_reserved.new.self.items = subst (KeepsQueue (inside.made + 1) inside.acked c.make_way-superseded.new.index.entries) (sym items) k in
+          let left : lives c.tidy.new.slots.items ≡ lives c.make_way-superseded.new.slots.items ++ event ∷ [] =
+          lives_tidy c.drop_front.new.slots.items c.tidy.new.slots.items c.tidy.ensures.slots ∙ ap lives c.drop_front.ensures.slots
+          ∙ lives_dropped inside.acked inside.acked c.push_back_reserved.new.self.items r.rising ∙ all_above inside.acked inside.acked c.push_back_reserved.new.self.items (omega arith) r.rising ∙ ap lives c.push_back_reserved.ensures.items
+          ∙ lives_push c.make_way-superseded.new.slots.items slot refl in
+          let many = ap length left ∙ length-append (lives c.make_way-superseded.new.slots.items) (event ∷ []) in
+          let way = c.make_way-superseded.ensures.count in
+          let with = c.live_with.ensures in
+          let was = c.self.invariant.3 in
+          omega (arith, many, way, with, was)
+          ),
     )
 
 pub returns : goal.returns
