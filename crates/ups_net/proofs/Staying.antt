@@ -12,7 +12,7 @@ use Rattle.ups_peers.specs.declared.limits.ServerLimits.{ServerLimits}
 use Rattle.ups_peers.specs.declared.watcher.Watcher.{Watcher}
 use Rattle.ups_peers.specs.Limits.{excess}
 use Rattle.ups_turn.specs.Pass.{PassView, most_calls, HasObserved, IsServed, IsSpent, IsCall}
-use Rattle.ups_net.specs.Delivering.{CountsPending, FindsPending, Visits, DeliversTo, DeliversToAll, DeliversRounds}
+use Rattle.ups_net.specs.Delivering.{FindsPending, Visits, DeliversTo, DeliversToAll, DeliversRounds}
 use Rattle.ups_net.specs.GivingUp.{CountsExcess, GivesUp, KeepsWithin}
 use Rattle.ups_net.specs.Sweeping.{LooksIfKept, Sweeps}
 use Rattle.ups_net.specs.Working.{Works, EndThreads, Ran}
@@ -35,16 +35,12 @@ module _ {A : Type 0} where
   swept ae keeps zero old new is = ap (λ (p : PassView A). p.table) is
   swept ae keeps (suc n) old new (between, mid, last, before, looks, once, lets) = lets.same.0 ∙ (called mid last ae once.moment _ once.reply once.call ∙ (looked keeps between mid looks ∙ swept ae keeps n old between before))
 
-  counted : (ae : List ℕ) (old new : PassView A) (found : Bool) → CountsPending ae old found new → new.table ≡ old.table
-  counted ae old new found = at (nat_lt old.calls most_calls)
+  found_out : (ae : List ℕ) (old new : PassView A) (found : Bool) → FindsPending ae old found new → new.table ≡ old.table
+  found_out ae old new found = at (nat_lt old.calls most_calls)
     where
       at : (b : Bool) → MatchBool b (HasObserved old new × (found ≡ nat_lt 0 (length (pending new.settings (past new.seen) ae)))) ((found ≡ false) × (new ≡ old)) → new.table ≡ old.table
       at true s = s.0.same.0
       at false s = ap (λ (p : PassView A). p.table) s.1
-
-  found_out : (ae : List ℕ) (old new : PassView A) (found : Bool) → FindsPending ae old found new → new.table ≡ old.table
-  found_out ae old new found (inl asks) = called old new ae asks.moment _ asks.reply asks.call
-  found_out ae old new found (inr counts) = counted ae old new found counts
 
   counted_excess : (limit : ℕ) (watcher : Watcher) (old new : PassView A) (beyond : ℕ) → CountsExcess limit watcher old beyond new → new.table ≡ old.table
   counted_excess limit watcher old new beyond = at (nat_lt old.calls most_calls)
