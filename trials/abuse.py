@@ -33,13 +33,16 @@ hears before it is cut off is an A-ABORT of the service provider; for each kind 
 come, twice, to servers with a worker for each of them and 4 more, one kind after the other: 4 working peers beside them are
 served at the same time within 2 limits.
 
+Then a peer asks for steps by a pattern of 32,500 letters that none of 4,000 labels of 65,000 letters fits, which takes the server
+minutes. For ten seconds another gets each step that it asks for within 50 ms meanwhile.
+
 After a crowd is gone, the server is done with each of its connections within 15 limits. Then 4 working peers are served within
 2 limits; no thread and no descriptor may be lost, and the memory (VmRSS) must come back, but for 16 MB: to what it was before,
 or with a worker for each peer to what the first crowd left.
 
 It starts the servers on free ports of this machine and ends by itself, after six minutes. It prints a line for each
 trial that fails, and in the end how many passed. The status is 1 if any failed. With --no-memory it does not judge the
-memory, for a program that is built with checks.
+memory, and lets an answer beside a slow query take a second, for a program that is built with checks.
 """
 
 import argparse
@@ -48,6 +51,7 @@ import contextlib
 import os
 import random
 import resource
+import select
 import signal
 import socket
 import struct
@@ -72,6 +76,8 @@ MEMORY = 100_000_000
 CROWD = 200
 SHORT = 2  # the limits of a server that a crowd attacks
 BEHIND = 40  # seconds that a peer that comes after a crowd may wait: half a second for each four of them, and a look at the door
+LABEL, LABELS, LETTERS = (0x0074, 0x1204), 4_000, 65_000  # the labels of the steps that a slow query is compared with
+BESIDE, PROMPT = 10, 0.05  # seconds for which others ask beside it, and within which each is answered
 LEFT = 15 * SHORT  # how long the connections of a crowd that is gone may remain
 PACE = 0.35 * SHORT  # seconds between two bytes of a slow sender: none comes just as a limit ends
 STEPS, FEW_STEPS = 50, 20  # of 10 KB each, that a peer asks for, and a peer of a crowd
@@ -540,6 +546,26 @@ def crowd_trials(program, results, growth):
         attempt(beside_trial, name, kind)
 
 
+def slow_query_trial(program, results, most):
+    """Sends a query that is matched for minutes, and asks for steps beside it."""
+    step = dicom.step(True, {LABEL: (b"LO", b"A" * LETTERS)})
+    with Server(program, "--associations", "8") as server:
+        filler = Caller(server.port, SLOW, BOTH)
+        refused = [at for at in range(LABELS) if filler.ask(dicom.create(PUSH_ON, 1, b"1.2.3.%d" % at, step))]
+        results.tell(f"{LABELS} steps with long labels", f"{len(refused)} were refused" if refused else None)
+        asker, took = Caller(server.port, SLOW, BOTH), []
+        asker.socket.sendall(dicom.find(PULL_ON, 1, told(*LABEL, b"LO", b"*?" + b"A" * (LETTERS // 2) + b"B*")))
+        until = time.monotonic() + BESIDE
+        while time.monotonic() < until:
+            begun = time.monotonic()
+            filler.ask(dicom.get(PUSH_ON, 1, b"1.2.3.%d" % (len(took) % LABELS)))
+            took.append(time.monotonic() - begun)
+        is_answered = select.select([asker.socket], [], [], 0)[0]
+        results.tell("a slow query is matched all the while", "it was answered" if is_answered else None)
+        results.tell(f"{len(took)} N-GETs beside it", f"one took {max(took):.3f} s" if max(took) > most else None)
+        server.process.kill()
+
+
 def end_trial(server, results):
     """Sends SIGTERM while hostile peers have all workers."""
     with contextlib.ExitStack() as stack:
@@ -581,6 +607,7 @@ def main():
     waited, crowded = silent_trial(asked.program, results)
     most = max(most, crowded)
     crowd_trials(asked.program, results, sys.maxsize if asked.no_memory else GROWTH)
+    slow_query_trial(asked.program, results, 1 if asked.no_memory else PROMPT)
     if not asked.no_memory:
         results.tell("memory", None if most * 1024 < MEMORY else f"VmHWM is {most * 1024:,} bytes")
     waited = f", a peer behind {SILENT} silent ones served after {waited:.1f} s" if waited else ""
