@@ -5,6 +5,7 @@ from __future__ import annotations
 import argparse
 import dataclasses
 import re
+import subprocess
 from collections import Counter
 from collections.abc import Iterator
 
@@ -71,17 +72,6 @@ def quoted(text: str) -> str:
     return re.sub(r"(?m)^(?=[.'])", r"\\&", text)
 
 
-def inline(text: str) -> str:
-    """Converts a line of Markdown: code and bold text become bold, and a link becomes its text."""
-    text = re.sub(r"\[([^]]+)\]\([^)]*\)", r"\1", text)
-    parts = re.split(r"`([^`]+)`|\*\*([^*]+)\*\*", text)
-    plain, code, strong = parts[::3], parts[1::3], parts[2::3]
-    out = quoted(plain[0])
-    for bold, text in zip((one or other for one, other in zip(code, strong)), plain[1:]):
-        out += rf"\fB{quoted(bold)}\fR" + quoted(text).removeprefix("\\&")
-    return out
-
-
 def head(name: str, section: str, about: str, date: str, version: str) -> str:
     """Returns the beginning of a man page."""
     title = f'.TH {name.upper()} {section} "{date}" "upsd {version}"'
@@ -89,29 +79,10 @@ def head(name: str, section: str, about: str, date: str, version: str) -> str:
 
 
 def page_of_markdown(text: str, start: str) -> str:
-    """Converts a page in Markdown, without its title, to a man page with this start."""
-    blocks = re.split(r"\n{2,}(?! )|\n{2,}(?=    )", "\n" + re.sub(r"<!--.*?-->", "", text).strip("\n"))
-    return start + ".SH DESCRIPTION\n" + "".join(block_of(it.strip("\n")) for it in blocks[1:] or blocks)
-
-
-def block_of(block: str) -> str:
-    """Converts a heading, a table, a list, verbatim lines, or a paragraph."""
-    if found := re.match(r"(#+) (.*)", block):
-        return f".{'SH' if len(found[1]) < 3 else 'SS'} {inline(found[2].upper() if len(found[1]) < 3 else found[2])}\n"
-    if block.startswith("|"):
-        return table_of(block)
-    if re.match(r"- |\d+\. ", block):
-        return "".join(f".IP \\(bu 2\n{inline(' '.join(it.split()))}\n" for it in re.split(r"(?m)^(?:- |\d+\. )", block)[1:])
-    if block.startswith(("    ", "```")):
-        lines = [it[4:] if it.startswith("    ") else it for it in block.split("\n") if not it.startswith("```")]
-        return ".PP\n.RS 2\n.nf\n" + quoted("\n".join(lines)) + "\n.fi\n.RE\n"
-    return f".PP\n{inline(' '.join(block.split()))}\n"
-
-
-def table_of(block: str) -> str:
-    """Converts a table to an entry for each row, with its first cell in front of the others."""
-    rows = [[it.strip() for it in row.strip("|").split("|")] for row in block.split("\n")]
-    return "".join(f".TP 8\n{inline(first)}\n{inline('; '.join(others))}\n" for first, *others in rows[2:])
+    """Converts a page in Markdown, without its title, to a man page with this start, by lowdown."""
+    text = "# DESCRIPTION\n" + re.sub(r"(?m)^#(#+ .*)", lambda it: it[1].upper() if it[1][1] == " " else it[1], text.strip().partition("\n")[2])
+    page = subprocess.run(["lowdown", "-Tman", "--out-no-smarty"], check=True, capture_output=True, text=True, input=text).stdout
+    return "'\\\" t\n" + start + re.sub(r"\\fC(.*?)\\fR", r"\\fB\1\\fR", page)
 
 
 def entry_of(option: Option) -> str:

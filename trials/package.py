@@ -20,7 +20,7 @@ nothing does not. A package with a stand-in for an earlier version, on the store
 backup before, and that one brings both back; the earlier server goes on until it is restarted, since it has told no terms. In
 the end nothing of the package may be left but the store and a locked account.
 
-It installs what is missing (lintian, debootstrap, systemd-container, man-db, python3-pydicom) and needs root. It prints a line
+It installs what is missing (debhelper, lintian, debootstrap, systemd-container, man-db, python3-pydicom ..) and needs root. It prints a line
 for each trial, and then `N passed, M failed`. The exit status is 1 if any failed.
 """
 
@@ -28,6 +28,7 @@ from __future__ import annotations
 
 import argparse
 import contextlib
+import glob
 import hashlib
 import os
 import re
@@ -45,8 +46,9 @@ from machine import HERE, PYTHON, holds, install
 from results import Results
 import tour
 
-TOOLS = {"lintian": "lintian", "debootstrap": "debootstrap", "systemd-nspawn": "systemd-container", "systemd-analyze": "systemd",
-         "man": "man-db", "strip": "binutils", "objdump": "binutils", "nsenter": "util-linux"}
+TOOLS = {"dh": "debhelper", "dh_python3": "dh-python", "lowdown": "lowdown", "dpkg-buildpackage": "dpkg-dev", "lintian": "lintian",
+         "debootstrap": "debootstrap", "systemd-nspawn": "systemd-container", "systemd-analyze": "systemd", "man": "man-db",
+         "nsenter": "util-linux"}
 MIRROR = "http://deb.debian.org/debian"
 MOST_EXPOSED = 2.0
 STORE = "/var/lib/upsd/upsd.db"
@@ -91,7 +93,7 @@ def unless(holds_so: bool, fault: str) -> Optional[str]:
 def built(program: str, folder: str) -> list[str]:
     """Builds the packages into a folder, and returns their paths: that of the client, and that of the server."""
     with_rt = {**QUIET, "PATH": f"{QUIET['PATH']}:{os.environ['PATH']}"}  # which tells whether the program is proved
-    ran = subprocess.run(["packaging/build", "--program", program, "--output", folder], capture_output=True, text=True, env=with_rt, cwd=HERE)
+    ran = subprocess.run(["packaging/build", "--source", "--program", program, "--output", folder], capture_output=True, text=True, env=with_rt, cwd=HERE)
     if ran.returncode:
         sys.exit(f"package.py: it can't be built: {tour.last_line(ran.stderr)}")
     return ran.stdout.strip().splitlines()[-2:]
@@ -145,6 +147,7 @@ def try_packages(program: str, folder: str, results: Results) -> list[str]:
         name = os.path.basename(package).partition("_")[0]
         results.tell(f"two builds of {name} are equal", unless(content(package) == content(other), "they differ"))
         results.tell(f"lintian, of {name}", lint(package))
+    results.tell("lintian, of the sources", lint(glob.glob(os.path.join(folder, "*.dsc"))[0]))
     for unit in ("upsd.service", "ups-board.service"):
         results.tell(f"systemd-analyze security {unit}", exposure(os.path.join(HERE, "packaging", unit)))
     results.tell("the synopsis of upsd(8)", synopsis(program))
