@@ -13,7 +13,6 @@ server, the least of the longest counts. FOLDER is where the store is laid, on t
 
 from __future__ import annotations
 
-import argparse
 import contextlib
 import os
 import sys
@@ -26,6 +25,7 @@ from typing import Optional
 TOP = os.path.dirname(os.path.dirname(os.path.abspath(__file__)))
 sys.path.insert(0, os.path.join(TOP, "check/lib"))
 from dicom import create, get
+from machine import described
 from peer import PUSH_ON, a_step
 from server import as_service
 from stored import Client, Stored
@@ -109,9 +109,7 @@ def measure(program: str, held: int, seconds: float, within: Optional[str]) -> d
 
 
 def main() -> None:
-    about, _, more = (__doc__ or "").partition("\n\n")
-    asked = argparse.ArgumentParser(description=about, epilog=more, formatter_class=argparse.RawDescriptionHelpFormatter)
-    asked.add_argument("program", nargs="?", default=os.path.join(TOP, "crates/upsd/out/upsd"))
+    asked = described(__doc__, "?")
     asked.add_argument("--held", type=int, default=100_000)
     asked.add_argument("--seconds", type=float, default=10)
     asked.add_argument("--rounds", type=int, default=1)

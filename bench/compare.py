@@ -8,7 +8,6 @@ name) counts the processor's instructions or the allocated blocks of memory inst
 that is slow, but the same at each run, whatever else the machine does.
 """
 
-import argparse
 import os
 import re
 import subprocess
@@ -20,6 +19,7 @@ sys.path.insert(0, os.path.join(os.path.dirname(os.path.dirname(os.path.abspath(
 import dicom
 import pipe
 import script
+from machine import described
 
 PIPE = ["pipe", "--ae", "UPSD"]
 
@@ -148,8 +148,7 @@ def compared(programs, words, base, whole, times, count):
 
 
 def main():
-    about, _, more = __doc__.partition("\n\n")
-    asked = argparse.ArgumentParser(description=about, epilog=more)
+    asked = described(__doc__)
     asked.add_argument("before", help="the older program")
     asked.add_argument("after", help="the newer program")
     counts = asked.add_mutually_exclusive_group()

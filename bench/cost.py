@@ -11,7 +11,6 @@ With --longest it measures a server over TCP instead: the longest N-CREATE among
 busy machine makes it longer.
 """
 
-import argparse
 import os
 import subprocess
 import sys
@@ -22,6 +21,7 @@ sys.path.insert(0, os.path.join(os.path.dirname(os.path.dirname(os.path.abspath(
 import dicom
 import pipe
 from compare import CALLGRIND, MEMCHECK, PIPE, allocated, collected
+from machine import described
 from peer import Peer
 from serve import Measured
 
@@ -158,8 +158,7 @@ def longest(program, steps, last):
 
 
 def main():
-    about, _, more = __doc__.partition("\n\n")
-    asked = argparse.ArgumentParser(description=about, epilog=more)
+    asked = described(__doc__)
     asked.add_argument("programs", nargs="*", default=["crates/upsd/out/upsd"], help="the programs (crates/upsd/out/upsd, which `rt run` builds)")
     asked.add_argument("--longest", action="store_true", help="measure the longest N-CREATE")
     asked.add_argument("--steps", type=int, default=100_000, help="of how many steps (100,000)")

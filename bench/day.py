@@ -20,7 +20,6 @@ The sweeping thread is the first of the process, as `serve` has it. The delivere
 before the first request.
 """
 
-import argparse
 import os
 import statistics
 import sys
@@ -29,7 +28,7 @@ import time
 sys.path.insert(0, os.path.join(os.path.dirname(os.path.dirname(os.path.abspath(__file__))), "check/lib"))
 from dicom import act, create, find, get, set_attributes
 from listeners import Watcher
-from machine import resident, used_by
+from machine import described, resident, used_by
 from peer import FILTERED, GLOBAL, PULL_ON, PUSH_ON, Asker, a_step, claim, progress, subscribe, told, unsubscribe
 from server import Server
 
@@ -143,9 +142,7 @@ class Day:
 
 
 def main():
-    about, _, more = __doc__.partition("\n\n")
-    asked = argparse.ArgumentParser(description=about, epilog=more, formatter_class=argparse.RawDescriptionHelpFormatter)
-    asked.add_argument("program", nargs="?", default="crates/upsd/out/upsd")
+    asked = described(__doc__, "?")
     asked.add_argument("--sizes", nargs="+", type=int, default=[1_000, 10_000])
     asked.add_argument("--away", action="store_true", help="the watcher of all steps never listens")
     asked.add_argument("--keep", default="1", help="how long the server keeps a finished step, in seconds (1)")

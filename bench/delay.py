@@ -11,7 +11,6 @@ DCMTK sends a request in two parts. With its default settings the second waits u
 TCP_NODELAY set it doesn't. Both are measured: the milliseconds of a request, next to those of a round trip.
 """
 
-import argparse
 import contextlib
 import fcntl
 import heapq
@@ -27,6 +26,7 @@ import time
 from collections.abc import Iterator
 
 sys.path.insert(0, os.path.join(os.path.dirname(os.path.dirname(os.path.abspath(__file__))), "check/lib"))
+from machine import described
 from server import Server
 
 NAMESPACE, HERE, THERE = "upsd-delay", "10.213.77.1", "10.213.77.2"
@@ -121,9 +121,7 @@ def measure(program: str, delay: float, count: int) -> list[str]:
 
 
 def main() -> None:
-    about, _, more = __doc__.partition("\n\n")
-    asked = argparse.ArgumentParser(description=about, epilog=more, formatter_class=argparse.RawDescriptionHelpFormatter)
-    asked.add_argument("program", nargs="?", default="crates/upsd/out/upsd")
+    asked = described(__doc__, "?")
     asked.add_argument("--delays", nargs="+", type=float, default=[0, 1, 20])
     asked.add_argument("--count", type=int, default=100)
     given = asked.parse_args()

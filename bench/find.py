@@ -13,14 +13,13 @@ Each cell is the processor time that the workers of the server take for a find, 
 of a worklist label, with the longest of 200; and how much the resident memory grows at most during a find of all steps.
 """
 
-import argparse
 import os
 import statistics
 import sys
 
 sys.path.insert(0, os.path.join(os.path.dirname(os.path.dirname(os.path.abspath(__file__))), "check/lib"))
 from dicom import act, create, data, even, find, items, set_attributes, step
-from machine import resident, used_by
+from machine import described, resident, used_by
 from peer import PULL_ON, PUSH_ON, Peer, claim, told
 from server import Server
 
@@ -144,9 +143,7 @@ def measure(program: str, steps: int) -> list[str]:
 
 
 def main() -> None:
-    about, _, more = __doc__.partition("\n\n")
-    asked = argparse.ArgumentParser(description=about, epilog=more, formatter_class=argparse.RawDescriptionHelpFormatter)
-    asked.add_argument("program", nargs="?", default="crates/upsd/out/upsd")
+    asked = described(__doc__, "?")
     asked.add_argument("--sizes", nargs="+", type=int, default=[11, 1_000, 10_000, 100_000])
     given = asked.parse_args()
     names = [f"{name}, {'each' if answers is None else answers}" for name, answers, _ in queries()] + ["N-CREATE", "N-SET", "all"]

@@ -16,7 +16,6 @@ refused.
 
 from __future__ import annotations
 
-import argparse
 import collections
 import glob
 import os
@@ -24,7 +23,7 @@ import sys
 
 TOP = os.path.dirname(os.path.dirname(os.path.abspath(__file__)))
 sys.path.insert(0, f"{TOP}/check/lib")
-
+from machine import described
 import edits  # noqa: E402
 import lanes  # noqa: E402
 
@@ -91,8 +90,7 @@ def self_test() -> int:
 
 
 def main() -> int:
-    about, _, more = __doc__.partition("\n\n")
-    asked = argparse.ArgumentParser(description=about, epilog=more, formatter_class=argparse.RawDescriptionHelpFormatter)
+    asked = described(__doc__)
     asked.add_argument("edits", nargs="*", metavar="CRATE[/EDIT]")
     asked.add_argument("--list", action="store_true")
     asked.add_argument("--self-test", action="store_true")

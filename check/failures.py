@@ -24,7 +24,6 @@ answers, by an end of its data or by a reset. The log says how it ends, and an u
 It prints how many failures were tried, and each that had an unexpected outcome; the status is 1 if there is one.
 """
 
-import argparse
 import collections
 import contextlib
 import itertools
@@ -42,6 +41,7 @@ import courses
 import dicom
 import rows
 import runs
+from machine import described
 
 COURSES = ("attributes.rows", "courses.rows", "life_cycle.rows", "lines.rows", "matching.rows", "watching.rows")
 SMALL = 4_000  # the most bytes of an input that is tried
@@ -392,8 +392,7 @@ def tried(number):
 
 
 def main():
-    about, _, more = __doc__.partition("\n\n")
-    asked = argparse.ArgumentParser(description=about, epilog=more, formatter_class=argparse.RawDescriptionHelpFormatter)
+    asked = described(__doc__)
     asked.add_argument("files", nargs="+", metavar="FILE", help="a file of rows, or a folder of examples")
     asked.add_argument("--program", default="crates/upsd/out/upsd", help="the program (default: %(default)s)")
     asked.add_argument("--refusals", default="crates/refusals/out/refusals", help="that of courses (default: %(default)s)")

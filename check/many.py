@@ -15,7 +15,6 @@ no other.
 It prints how many associations and whole messages there were, and each fault; the status is 1 if there is one.
 """
 
-import argparse
 import contextlib
 import os
 import random
@@ -28,7 +27,7 @@ sys.path.insert(0, os.path.join(os.path.dirname(os.path.dirname(os.path.abspath(
 import dicom
 import rows
 import runs
-from machine import HERE
+from machine import HERE, described
 from peer import HANGS_UP, READS_ON, RESETS, Speaker
 
 ASSOCIATIONS, GOOD = 16, 4
@@ -198,9 +197,7 @@ def tried(program, chance):
 
 
 def main():
-    about, _, more = __doc__.partition("\n\n")
-    asked = argparse.ArgumentParser(description=about, epilog=more, formatter_class=argparse.RawDescriptionHelpFormatter)
-    asked.add_argument("program", nargs="?", default="crates/upsd/out/upsd", help="the program (default: %(default)s)")
+    asked = described(__doc__, "?")
     asked.add_argument("--rounds", type=int, default=8, help="how many servers are tried (default: %(default)s)")
     asked.add_argument("--seed", type=int, default=1, help="where the associations are cut off (default: %(default)s)")
     given = asked.parse_args()

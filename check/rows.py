@@ -74,7 +74,6 @@ writes in NAME.stdout.
 The last line is `N passed, M failed`, counting scripts, examples and other rows. The status is 1 if one failed.
 """
 
-import argparse
 import copy
 import os
 import re
@@ -85,6 +84,7 @@ import courses
 import dicom
 import runs
 import services
+from machine import described
 
 WORDS = {
     "U1": "1.2.3.1",
@@ -454,8 +454,7 @@ def fault_of(program, row, is_spoiled):
 
 
 def main():
-    about, _, more = __doc__.partition("\n\n")
-    asked = argparse.ArgumentParser(description=about, epilog=more, formatter_class=argparse.RawDescriptionHelpFormatter)
+    asked = described(__doc__)
     asked.add_argument("files", nargs="+", metavar="FILE", help="a file of rows, or a folder of examples")
     asked.add_argument("--program", default="crates/upsd/out/upsd", help="the program (default: %(default)s)")
     asked.add_argument("--readings", default="crates/readings/out/readings", help="that of readings (default: %(default)s)")

@@ -26,7 +26,6 @@ A line reports each of these, and the last line is `N passed, M failed`. The sta
 
 from __future__ import annotations
 
-import argparse
 import collections
 import concurrent.futures
 import os
@@ -45,7 +44,7 @@ import runs
 from dicom import act, create, data, even, find, get, items, set_attributes, step
 from ledger import (CANCELED, CANCELLATION_TIME, COMPLETED, IN_PROGRESS, LABEL, PERFORMED, PROGRESS, SOP_INSTANCE, STATE,
                     TRANSACTION, VRS, Association, Fault, read)
-from machine import HERE
+from machine import HERE, described
 from results import Results
 from server import Server
 
@@ -349,9 +348,7 @@ def try_endings(endings: str, results: Results) -> None:
 
 
 def main() -> None:
-    about, _, more = (__doc__ or "").partition("\n\n")
-    asked = argparse.ArgumentParser(description=about, epilog=more, formatter_class=argparse.RawDescriptionHelpFormatter)
-    asked.add_argument("program", nargs="?", default="crates/upsd/out/upsd", help="the program (default: %(default)s)")
+    asked = described(__doc__, "?")
     asked.add_argument("--endings", default="crates/endings/out/endings", help="that of servers that end (default: %(default)s)")
     asked.add_argument("--steps", type=int, default=100, help="how many steps there are (default: %(default)s)")
     asked.add_argument("--seed", type=int, default=1, help="when the workstations pause (default: %(default)s)")

@@ -43,7 +43,7 @@ import later_cuts
 import restarts
 import store_cost
 import stored_days
-from machine import HERE
+from machine import HERE, described
 from results import Results
 from stored import FAULTS
 
@@ -70,8 +70,7 @@ SELF_TEST = ("self-test", "take for answered what was not, and see that this is 
 
 
 def arguments() -> argparse.Namespace:
-    about, _, more = (__doc__ or "").partition("\n\n")
-    asked = argparse.ArgumentParser(description=about, epilog=more, formatter_class=argparse.RawDescriptionHelpFormatter)
+    asked = described(__doc__)
     trials = asked.add_subparsers(dest="trial", required=True, metavar="TRIAL")
     options_of(trials, "kills", kills.run, ("kills", 20, "how many servers are killed"), ("each", 250, "how many of them on one store"),
                positional=True, flags=(SELF_TEST,))

@@ -14,7 +14,6 @@ The last line is `N passed, M failed`. The status is 1 if one failed.
 
 from __future__ import annotations
 
-import argparse
 import dataclasses
 import itertools
 import os
@@ -26,6 +25,7 @@ HERE = os.path.dirname(os.path.dirname(os.path.abspath(__file__)))
 sys.path.insert(0, os.path.join(HERE, "check/lib"))
 import results  # noqa: E402
 import runs  # noqa: E402
+from machine import described
 
 FILE = "rows/vectors.txt"
 WORD = re.compile(r'"([^"]*)"|([0-9a-f]{2})\*(\d+)|((?:[0-9a-f]{2})+)|([A-Z][A-Z_0-9]*)')
@@ -170,8 +170,7 @@ def is_refused(text: str) -> bool:
 
 
 def main() -> None:
-    about, _, more = (__doc__ or "").partition("\n\n")
-    asked = argparse.ArgumentParser(description=about, epilog=more, formatter_class=argparse.RawDescriptionHelpFormatter)
+    asked = described(__doc__)
     asked.add_argument("--program", default="crates/upsd/out/upsd", help="the program (default: %(default)s)")
     asked.add_argument("--file", default=os.path.join(HERE, FILE), help=f"the vectors (default: {FILE})")
     asked.add_argument("--self-test", action="store_true", help="spoil what is expected: it has to be found")

@@ -45,7 +45,6 @@ trial that fails, and in the end how many passed. The status is 1 if any failed.
 memory, and lets an answer beside a slow query take a second, for a program that is built with checks.
 """
 
-import argparse
 import asyncio
 import contextlib
 import os
@@ -62,7 +61,7 @@ import time
 sys.path.insert(0, os.path.join(os.path.dirname(os.path.dirname(os.path.abspath(__file__))), "check/lib"))
 import dicom
 from dicom import EXPLICIT, IMPLICIT, PULL, PUSH, VERIFICATION, pdu
-from machine import HERE, holds
+from machine import described, holds
 from peer import PULL_ON, PUSH_ON, Caller, connect, told
 from results import Results
 from server import Server
@@ -576,9 +575,7 @@ def end_trial(server, results):
 
 
 def main():
-    parser = argparse.ArgumentParser(description=__doc__, formatter_class=argparse.RawDescriptionHelpFormatter)
-    parser.add_argument("program", nargs="*", default=[os.path.join(HERE, "crates/upsd/out/upsd")],
-                        help="the program, and words before those of `serve` (default: crates/upsd/out/upsd, which `rt run` builds)")
+    parser = described(__doc__, "*")
     parser.add_argument("--no-memory", action="store_true", help="don't judge the memory: the program is built with checks")
     asked = parser.parse_args()
     most = resource.getrlimit(resource.RLIMIT_NOFILE)[1]

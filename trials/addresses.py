@@ -85,7 +85,7 @@ def try_reports(server: Server, watchers: dict[str, At], results: Results) -> No
 
 
 def main() -> None:
-    given, results = arguments(__doc__ or ""), Results()
+    given, results = arguments(__doc__), Results()
     watchers = {"SECOND": At(address(2)), "BEHIND": At(address(2)), "LAST": At(address(TRIED)), "EACH": At(address(1), address(2)),
                 "BEYOND": At(address(TRIED + 1))}
     many = {"LAST": TRIED, "BEYOND": TRIED + 1}

@@ -498,7 +498,7 @@ def trial_of_no_starts(program: list[str], results: Results) -> None:
 
 
 def main() -> None:
-    program = [os.path.abspath(arguments(__doc__ or "").program)]
+    program = [os.path.abspath(arguments(__doc__).program)]
     install({})
     results = Results()
     for trial in (trial_of_operations, trial_without_lines, trial_of_refusals, trial_of_many, trial_of_titles, trial_of_rejections,

@@ -33,7 +33,7 @@ from typing import Callable, Iterator, Optional
 TOP = os.path.dirname(os.path.dirname(os.path.abspath(__file__)))
 sys.path[:0] = [os.path.join(TOP, it) for it in ("check/lib", "check")]
 import kills
-from machine import HERE, holds
+from machine import HERE, described, holds
 from peer import GLOBAL, subscribe
 from results import Results
 from stored import FAULTS, Client, Stored, a_step_of, bytes_in, make_store
@@ -369,10 +369,7 @@ def run_damages(place: Place, file: str, results: Results) -> None:
 
 
 def main() -> None:
-    about, _, more = (__doc__ or "").partition("\n\n")
-    asked = argparse.ArgumentParser(description=about, epilog=more, formatter_class=argparse.RawDescriptionHelpFormatter)
-    asked.add_argument("program", nargs="?", default=os.path.join(HERE, "crates/upsd/out/upsd"),
-                       help="the program (default: crates/upsd/out/upsd, which `rt run` builds)")
+    asked = described(__doc__, "?")
     asked.add_argument("--rounds", type=int, default=20, help="how many servers end by a backup (20)")
     asked.add_argument("--seed", type=int, default=1, help="by which what is random is chosen (1)")
     given = asked.parse_args()

@@ -54,7 +54,7 @@ from typing import Any, Iterator, Optional
 sys.path.insert(0, os.path.join(os.path.dirname(os.path.dirname(os.path.abspath(__file__))), "check/lib"))
 import dicom
 import stock
-from machine import HERE, free_port, holds, install, listens
+from machine import HERE, described, free_port, holds, install, listens
 from peer import PUSH_ON, Peer, a_step
 from results import Results
 from server import Server
@@ -707,7 +707,7 @@ def try_all(asked: argparse.Namespace, browser: Browser, results: Results) -> No
 
 
 def main() -> None:
-    parser = argparse.ArgumentParser(description=__doc__, formatter_class=argparse.RawDescriptionHelpFormatter)
+    parser = described(__doc__)
     parser.add_argument("--program", nargs="+", default=[os.path.join(HERE, "crates/upsd/out/upsd")],
                         help="the program, and words before those of `serve` (crates/upsd/out/upsd, which `rt run` builds)")
     parser.add_argument("--steps", type=int, default=200, help="steps that live (200)")

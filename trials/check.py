@@ -254,7 +254,7 @@ def try_wrong_files(trial: Trial) -> None:
 
 
 def main() -> None:
-    asked = arguments(__doc__ or "")
+    asked = arguments(__doc__)
     with tempfile.TemporaryDirectory() as folder:
         trial = Trial(asked.program.split(), folder)
         for each in (try_words, try_stores, try_used, try_ports, try_files, try_wrong_files):

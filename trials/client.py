@@ -32,7 +32,6 @@ failed. trials/stock.py has the life of steps through the client, and trials/boa
 
 from __future__ import annotations
 
-import argparse
 import contextlib
 import dataclasses
 import datetime
@@ -57,7 +56,7 @@ TOP = os.path.dirname(os.path.dirname(os.path.abspath(__file__)))
 sys.path[:0] = [os.path.join(TOP, it) for it in ("check/lib", "trials/lib")]
 import stock
 import strangers
-from machine import HERE, free_port, holds, install
+from machine import HERE, described, free_port, holds, install
 from results import Results
 from server import Server
 from stock import DONE, GLOBAL, NO_ANSWER, OWN, PERFORMED, REFUSED, STEP, Watcher, made, open_association, plain
@@ -996,9 +995,7 @@ def try_announce(results: Results) -> None:
 
 
 def main() -> None:
-    parser = argparse.ArgumentParser(description=__doc__, formatter_class=argparse.RawDescriptionHelpFormatter)
-    parser.add_argument("program", nargs="*", default=[os.path.join(HERE, "crates/upsd/out/upsd")],
-                        help="the program, and words before those of `serve` (crates/upsd/out/upsd, which `rt run` builds)")
+    parser = described(__doc__, "*")
     asked = parser.parse_args()
     install({})
     warnings.simplefilter("ignore")  # pydicom warns about the values that are tried

@@ -11,7 +11,6 @@ and then `N passed, M failed`. The exit status is 1 if any failed.
 
 from __future__ import annotations
 
-import argparse
 import os
 import re
 import subprocess
@@ -19,7 +18,7 @@ import sys
 from typing import Optional
 
 sys.path.insert(0, os.path.join(os.path.dirname(os.path.dirname(os.path.abspath(__file__))), "check/lib"))
-from machine import HERE, free_port, install
+from machine import HERE, described, free_port, install
 from results import Results
 from server import Server
 
@@ -53,9 +52,7 @@ def fault_of(language: str, words: str, wanted: list[str], ports: tuple[int, int
 
 
 def main() -> None:
-    about, _, more = __doc__.partition("\n\n")
-    asked = argparse.ArgumentParser(description=about, epilog=more, formatter_class=argparse.RawDescriptionHelpFormatter)
-    asked.add_argument("program", nargs="?", default=os.path.join(HERE, "crates/upsd/out/upsd"), help="the program")
+    asked = described(__doc__, "?")
     given, results = asked.parse_args(), Results()
     odil = subprocess.run(["/usr/bin/python3", "-c", "import odil"], stderr=subprocess.DEVNULL, check=False).returncode
     install({"echoscu": "dcmtk", "python3": "python3-pydicom", **({"python3 with odil": "python3-odil"} if odil else {})})

@@ -42,7 +42,6 @@ in the end how many passed. It ends with status 1 if any failed. `trials/abuse.p
 
 from __future__ import annotations
 
-import argparse
 import asyncio
 import contextlib
 import itertools
@@ -59,7 +58,7 @@ import dicom
 from abuse import ABORT, CROWD, ECHO, FAULTS, FEW_STEPS, REQUEST, Holder, create_steps, crowd, hung_up, never_reads, served
 from dicom import EXPLICIT, IMPLICIT, PULL, RELEASE, VERIFICATION, pdu
 from ending import Visitor
-from machine import HERE, holds
+from machine import described, holds
 from peer import Caller, connect
 from results import Results
 from server import Server
@@ -333,10 +332,7 @@ def alone_trial(program: list[str], results: Results) -> None:
 
 
 def main() -> None:
-    about, _, more = (__doc__ or "").partition("\n\n")
-    parser = argparse.ArgumentParser(description=about, epilog=more, formatter_class=argparse.RawDescriptionHelpFormatter)
-    parser.add_argument("program", nargs="*", default=[os.path.join(HERE, "crates/upsd/out/upsd")],
-                        help="the program, and words before those of `serve` (default: crates/upsd/out/upsd, which `rt run` builds)")
+    parser = described(__doc__, "*")
     parser.add_argument("--limit", type=float, default=30.0, help="seconds that a working peer may wait (default: %(default)s)")
     given, results = parser.parse_args(), Results(tells_passed=False)
     signal.signal(signal.SIGALRM, lambda *_: sys.exit("crowds.py: it does not end"))

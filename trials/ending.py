@@ -28,7 +28,6 @@ trial that fails, and in the end how many passed. The status is 1 if any failed.
 
 from __future__ import annotations
 
-import argparse
 import contextlib
 import fcntl
 import os
@@ -49,7 +48,7 @@ import dicom
 from abuse import FAULTS, descriptors, is_left, threads
 from dicom import EXPLICIT, IMPLICIT, PULL, PUSH, VERIFICATION
 from ledger import Ledger
-from machine import HERE, free_port, holds, listens, processor
+from machine import described, free_port, holds, listens, processor
 from peer import Caller
 from results import Results
 from server import Server, Sink
@@ -306,10 +305,7 @@ def watched(server: Launched, results: Results) -> Iterator[None]:
 
 
 def main() -> None:
-    about, _, more = (__doc__ or "").partition("\n\n")
-    parser = argparse.ArgumentParser(description=about, epilog=more, formatter_class=argparse.RawDescriptionHelpFormatter)
-    parser.add_argument("program", nargs="*", default=[os.path.join(HERE, "crates/upsd/out/upsd")],
-                        help="the program, and words before those of `serve` (default: crates/upsd/out/upsd, which `rt run` builds)")
+    parser = described(__doc__, "*")
     given = parser.parse_args()
     signal.signal(signal.SIGALRM, lambda *_: sys.exit("ending.py: it does not end"))
     signal.alarm(600)

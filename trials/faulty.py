@@ -28,7 +28,6 @@ each thing that fails, and in the end how many passed. It ends with status 1 if 
 
 from __future__ import annotations
 
-import argparse
 import concurrent.futures
 import os
 import re
@@ -44,7 +43,7 @@ sys.path.insert(0, os.path.join(os.path.dirname(os.path.dirname(os.path.abspath(
 from abuse import ABORT
 from dicom import EXPLICIT, PULL, PUSH, command, create, element, even, message, us
 from listeners import Incoming, Refusing
-from machine import HERE, holds
+from machine import described, holds
 from peer import GLOBAL, PUSH_ON, Asker, Caller, a_step, claim, subscribe, unsubscribe
 from results import Results
 from server import Server
@@ -242,10 +241,7 @@ def try_full_with(program: list[str], file: str, watcher: Drops, entries: int, r
 
 
 def main() -> None:
-    about, _, more = (__doc__ or "").partition("\n\n")
-    parser = argparse.ArgumentParser(description=about, epilog=more, formatter_class=argparse.RawDescriptionHelpFormatter)
-    parser.add_argument("program", nargs="?", default=os.path.join(HERE, "crates/upsd/out/upsd"),
-                        help="the program (default: crates/upsd/out/upsd, which `rt run` builds)")
+    parser = described(__doc__, "?")
     parser.add_argument("--only", nargs="*", choices=tuple(KINDS), default=tuple(KINDS), metavar="TRIAL", help="these trials alone")
     parser.add_argument("--full", action="store_true", help="also fill the history")
     parser.add_argument("--entries", type=int, default=ENTRIES, help="how many entries it takes (default: %(default)s)")

@@ -17,7 +17,6 @@ It prints a line for each trial, and then `N passed, M failed`. The exit status 
 
 from __future__ import annotations
 
-import argparse
 import contextlib
 import os
 import re
@@ -35,7 +34,7 @@ sys.path[:0] = [os.path.join(TOP, it) for it in ("check/lib", "trials/lib")]
 from client import no_file_grows
 from dicom import IMPLICIT, PULL, associate, get
 from house import House
-from machine import HERE, free_port, holds, install, listens
+from machine import HERE, described, free_port, holds, install, listens
 from peer import connect
 from results import Results
 from server import Server
@@ -326,10 +325,7 @@ def trials(program: list[str], folder: str, results: Results) -> None:
 
 
 def main() -> None:
-    about, _, more = (__doc__ or "").partition("\n\n")
-    asked = argparse.ArgumentParser(description=about, epilog=more, formatter_class=argparse.RawDescriptionHelpFormatter)
-    asked.add_argument("program", nargs="?", default=os.path.join(HERE, "crates/upsd/out/upsd"),
-                       help="the program (default: crates/upsd/out/upsd, which `rt run` builds)")
+    asked = described(__doc__, "?")
     given = asked.parse_args()
     install({"haproxy": "haproxy", "stunnel4": "stunnel4", "openssl": "openssl"})
     results = Results()

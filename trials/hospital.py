@@ -33,7 +33,7 @@ import time
 from typing import Any
 
 sys.path.insert(0, os.path.join(os.path.dirname(os.path.dirname(os.path.abspath(__file__))), "check/lib"))
-from machine import HERE, free_port, holds, install
+from machine import described, free_port, holds, install
 from recipes import CLIENT, ORTHANC, OTHER, PLUGIN, STUDY, Orders, first, message, running, send, steps
 from results import Results
 from server import Server
@@ -172,9 +172,7 @@ def compare(results: Results, count: int, senders: list[Sending], department: De
 
 
 def main() -> None:
-    parser = argparse.ArgumentParser(description=__doc__, formatter_class=argparse.RawDescriptionHelpFormatter)
-    parser.add_argument("program", nargs="*", default=[os.path.join(HERE, "crates/upsd/out/upsd")],
-                        help="the program, and words before those of `serve` (crates/upsd/out/upsd, which `rt run` builds)")
+    parser = described(__doc__, "*")
     parser.add_argument("--orders", type=int, default=200, help="how many orders (200)")
     parser.add_argument("--senders", type=int, default=2, help="how many order systems (2)")
     parser.add_argument("--away", type=float, default=5, help="seconds for which the server is away (5)")

@@ -11,7 +11,6 @@ are missing.
 
 from __future__ import annotations
 
-import argparse
 import os
 import sys
 import time
@@ -19,7 +18,7 @@ import time
 sys.path.insert(0, os.path.join(os.path.dirname(os.path.dirname(os.path.abspath(__file__))), "check/lib"))
 from dicom import create
 from listeners import Watcher
-from machine import HERE, holds, processor, resident, used_by
+from machine import described, holds, processor, resident, used_by
 from peer import GLOBAL, PUSH_ON, Asker, a_step, subscribe
 from results import Results
 from server import Server
@@ -54,10 +53,7 @@ def measured(pid: int, seconds: float) -> tuple[float, str]:
 
 
 def main() -> None:
-    about, _, more = (__doc__ or "").partition("\n\n")
-    parser = argparse.ArgumentParser(description=about, epilog=more, formatter_class=argparse.RawDescriptionHelpFormatter)
-    parser.add_argument("program", nargs="?", default=os.path.join(HERE, "crates/upsd/out/upsd"),
-                        help="the program (default: crates/upsd/out/upsd, which `rt run` builds)")
+    parser = described(__doc__, "?")
     parser.add_argument("--steps", type=int, default=14_000, help="how many steps are held (default: %(default)s)")
     parser.add_argument("--watchers", type=int, default=10, help="how many watch all of them (default: %(default)s)")
     parser.add_argument("--seconds", type=float, default=60.0, help="for how long it is measured (default: %(default)s)")

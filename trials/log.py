@@ -22,7 +22,6 @@ association, and then `N passed, M failed`. The exit status is 1 if any failed.
 
 from __future__ import annotations
 
-import argparse
 import collections
 import dataclasses
 import os
@@ -34,7 +33,7 @@ from typing import Optional
 
 sys.path.insert(0, os.path.join(os.path.dirname(os.path.dirname(os.path.abspath(__file__))), "check/lib"))
 from dicom import IMPLICIT, PULL, create, data, echo, find, get, items
-from machine import HERE, holds
+from machine import described, holds
 from peer import CONTEXTS, ECHO_ON, PULL_ON, PUSH_ON, Caller, Peer, a_step, claim, told
 from results import Results
 from server import Server
@@ -210,10 +209,7 @@ def trial_of_unread_sequences(program: list[str], results: Results) -> None:
 
 
 def main() -> None:
-    about, _, more = (__doc__ or "").partition("\n\n")
-    asked = argparse.ArgumentParser(description=about, epilog=more, formatter_class=argparse.RawDescriptionHelpFormatter)
-    asked.add_argument("program", nargs="?", default=os.path.join(HERE, "crates/upsd/out/upsd"),
-                       help="the program (default: crates/upsd/out/upsd, which `rt run` builds)")
+    asked = described(__doc__, "?")
     given = asked.parse_args()
     results = Results()
     for verbose in (True, False):

@@ -19,7 +19,6 @@ It starts the servers on free ports of this machine and ends by itself, in five 
 fails, and in the end how many passed. The status is 1 if any failed.
 """
 
-import argparse
 import os
 import signal
 import sys
@@ -28,7 +27,7 @@ from typing import Callable, Optional
 sys.path.insert(0, os.path.join(os.path.dirname(os.path.dirname(os.path.abspath(__file__))), "check/lib"))
 import dicom
 from dicom import data, items
-from machine import HERE, holds
+from machine import described, holds
 from peer import ECHO_ON, PULL_ON, PUSH_ON, Peer, claim, told
 from results import Results
 from server import Server
@@ -183,9 +182,7 @@ class Trials:
 
 
 def main() -> None:
-    parser = argparse.ArgumentParser(description=__doc__, formatter_class=argparse.RawDescriptionHelpFormatter)
-    parser.add_argument("program", nargs="*", default=[os.path.join(HERE, "crates/upsd/out/upsd")],
-                        help="the program, and words before those of `serve` (default: crates/upsd/out/upsd, which `rt run` builds)")
+    parser = described(__doc__, "*")
     asked = parser.parse_args()
     signal.signal(signal.SIGALRM, lambda *_: sys.exit("memory.py: it does not end"))
     signal.alarm(900)

@@ -17,7 +17,6 @@ out without them.
 
 from __future__ import annotations
 
-import argparse
 import contextlib
 import glob
 import json
@@ -35,7 +34,7 @@ from typing import Optional
 
 sys.path[:0] = [os.path.join(os.path.dirname(os.path.dirname(os.path.abspath(__file__))), it) for it in ("check/lib", "trials")]
 from disks import SERVES, Failing, Failure, attached
-from machine import HERE, free_port, holds, pid_of
+from machine import HERE, described, free_port, holds, pid_of
 from peer import GLOBAL
 from results import Results
 from server import Server
@@ -384,9 +383,7 @@ def alerts_come(folder: str, results: Results) -> None:
 
 
 def main() -> None:
-    about, _, more = (__doc__ or "").partition("\n\n")
-    asked = argparse.ArgumentParser(description=about, epilog=more, formatter_class=argparse.RawDescriptionHelpFormatter)
-    asked.add_argument("program", nargs="?", default="crates/upsd/out/upsd", help="the program (%(default)s, which `rt run` builds)")
+    asked = described(__doc__, "?")
     program, results = [os.path.abspath(asked.parse_args().program)], Results()
     with tempfile.TemporaryDirectory() as folder:
         if shutil.which("promtool"):

@@ -49,7 +49,7 @@ import fuzz
 from abuse import descriptors, is_left, status, threads
 from dicom import EXPLICIT, IMPLICIT, PULL, PUSH, RELEASE, act, associate, create, data, get, step
 from ledger import SHOWN, Ledger
-from machine import HERE, holds
+from machine import described, holds
 from peer import HANGS_UP, READS_ON, RESETS, STAYS_SILENT, Speaker
 from results import Results
 from server import Server
@@ -357,10 +357,7 @@ def tried(server: Server, given: argparse.Namespace, results: Results) -> None:
 
 
 def main() -> None:
-    about, _, more = (__doc__ or "").partition("\n\n")
-    parser = argparse.ArgumentParser(description=about, epilog=more, formatter_class=argparse.RawDescriptionHelpFormatter)
-    parser.add_argument("program", nargs="*", default=[os.path.join(HERE, "crates/upsd/out/upsd")],
-                        help="the program, and words before those of `serve` (default: crates/upsd/out/upsd, which `rt run` builds)")
+    parser = described(__doc__, "*")
     parser.add_argument("--minutes", type=float, default=15, help="for how long (default: %(default)s)")
     parser.add_argument("--count", type=int, help="how many associations of each mutator, in place of the minutes")
     parser.add_argument("--seed", type=int, default=1, help="where the mutations come from (default: %(default)s)")

@@ -26,7 +26,6 @@ for each trial, and then `N passed, M failed`. The exit status is 1 if any faile
 
 from __future__ import annotations
 
-import argparse
 import contextlib
 import glob
 import hashlib
@@ -42,7 +41,7 @@ from typing import Iterator, Optional
 from xml.etree import ElementTree
 
 sys.path.insert(0, os.path.join(os.path.dirname(os.path.dirname(os.path.abspath(__file__))), "check/lib"))
-from machine import HERE, PYTHON, holds, install
+from machine import HERE, PYTHON, described, holds, install
 from results import Results
 import tour
 
@@ -777,8 +776,7 @@ def copied(folder: Optional[str]) -> Iterator[str]:
 
 
 def main() -> None:
-    about, _, more = (__doc__ or "").partition("\n\n")
-    asked = argparse.ArgumentParser(description=about, epilog=more, formatter_class=argparse.RawDescriptionHelpFormatter)
+    asked = described(__doc__)
     asked.add_argument("--program", metavar="PATH", default=tour.PROGRAM, help=f"the program ({tour.PROGRAM})")
     asked.add_argument("--checked", action="store_true", help="the program is built with checks, and gets no LimitAS")
     asked.add_argument("--root", metavar="FOLDER", help="a bare Debian, which is copied (made anew)")

@@ -17,7 +17,6 @@ machine, and ends by itself. It prints a line for each trial, and then `N passed
 
 from __future__ import annotations
 
-import argparse
 import collections
 import json
 import os
@@ -32,7 +31,7 @@ TOP = os.path.dirname(os.path.dirname(os.path.abspath(__file__)))
 sys.path[:0] = [os.path.join(TOP, it) for it in ("check/lib", "trials/lib")]
 import dicom
 import strangers
-from machine import HERE, free_port, holds, install, listens
+from machine import HERE, described, free_port, holds, install, listens
 from peer import PUSH_ON, Peer, a_step
 from results import Results
 from server import Server
@@ -272,7 +271,7 @@ def try_killed(results: Results, port: int, held: str, told: str) -> None:
 
 
 def main() -> None:
-    parser = argparse.ArgumentParser(description=__doc__, formatter_class=argparse.RawDescriptionHelpFormatter)
+    parser = described(__doc__)
     parser.add_argument("--program", nargs="+", default=[os.path.join(HERE, "crates/upsd/out/upsd")],
                         help="the program, and words before those of `serve` (crates/upsd/out/upsd, which `rt run` builds)")
     parser.add_argument("--steps", type=int, default=500, help="steps of the performers (500)")

@@ -13,7 +13,6 @@ one waited longer than `--limit`, a report is missing, came twice or out of orde
 it prints how many passed. The status is 1 if any failed. `--timeout` is the server's `--delivery-timeout`.
 """
 
-import argparse
 import collections
 import os
 import random
@@ -25,7 +24,7 @@ import time
 sys.path.insert(0, os.path.join(os.path.dirname(os.path.dirname(os.path.abspath(__file__))), "check/lib"))
 from dicom import create
 from listeners import Counting, Mute, Refusing, Silent, Slow
-from machine import holds
+from machine import described, holds
 from peer import GLOBAL, PUSH_ON, Asker, a_step, subscribe
 from results import Results
 from server import Server
@@ -58,9 +57,7 @@ def tell_log(log):
 
 
 def main():
-    about, _, more = __doc__.partition("\n\n")
-    asked = argparse.ArgumentParser(description=about, epilog=more, formatter_class=argparse.RawDescriptionHelpFormatter)
-    asked.add_argument("program", nargs="?", default="crates/upsd/out/upsd")
+    asked = described(__doc__, "?")
     asked.add_argument("--silent", type=int, default=3)
     asked.add_argument("--mute", type=int, default=0)
     asked.add_argument("--needs", default="2,2,2")

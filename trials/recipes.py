@@ -24,7 +24,6 @@ exit status is 1 if any failed.
 
 from __future__ import annotations
 
-import argparse
 import contextlib
 import datetime
 import importlib.util
@@ -43,7 +42,7 @@ TOP = os.path.dirname(os.path.dirname(os.path.abspath(__file__)))
 sys.path[:0] = [os.path.join(TOP, it) for it in ("check/lib", "trials/lib")]
 import dicom
 from dicom import IMPLICIT, create, even, get, items
-from machine import HERE, free_port, holds, install, listens
+from machine import HERE, described, free_port, holds, install, listens
 from modality import Modality, Scheduled, spelled
 from peer import PULL_ON, PUSH_ON, Peer
 from results import Results
@@ -571,9 +570,7 @@ def try_manager_away(results: Results, it: Performed, program: list[str], option
 
 
 def main() -> None:
-    parser = argparse.ArgumentParser(description=__doc__, formatter_class=argparse.RawDescriptionHelpFormatter)
-    parser.add_argument("program", nargs="*", default=[os.path.join(HERE, "crates/upsd/out/upsd")],
-                        help="the program, and words before those of `serve` (crates/upsd/out/upsd, which `rt run` builds)")
+    parser = described(__doc__, "*")
     asked = parser.parse_args()
     hl7 = importlib.util.find_spec("hl7") or not subprocess.run(["/usr/bin/python3", "-c", "import hl7"], stderr=subprocess.DEVNULL).returncode
     install({ORTHANC: "orthanc", "storescu": "dcmtk", **({} if hl7 else {"python3 with hl7": "python3-hl7"}), **({} if os.path.exists(PLUGIN) else {PLUGIN: "orthanc-python"})})

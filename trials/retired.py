@@ -18,7 +18,6 @@ any failed.
 
 from __future__ import annotations
 
-import argparse
 import os
 import re
 import sys
@@ -27,7 +26,7 @@ from typing import Optional
 
 sys.path.insert(0, os.path.join(os.path.dirname(os.path.dirname(os.path.abspath(__file__))), "check/lib"))
 from listeners import Counting
-from machine import HERE, free_port, holds
+from machine import described, free_port, holds
 from peer import GLOBAL
 from results import Results
 from stored import Client, Row, Stored, a_step_of, compacted, copy_of, folder_for, rows_of, tried
@@ -136,10 +135,7 @@ TRIALS = {"retired": retired, "limit": limit}
 
 
 def main() -> None:
-    about, _, more = (__doc__ or "").partition("\n\n")
-    parser = argparse.ArgumentParser(description=about, epilog=more, formatter_class=argparse.RawDescriptionHelpFormatter)
-    parser.add_argument("program", nargs="?", default=os.path.join(HERE, "crates/upsd/out/upsd"),
-                        help="the program (default: crates/upsd/out/upsd, which `rt run` builds)")
+    parser = described(__doc__, "?")
     parser.add_argument("--only", nargs="*", choices=tuple(TRIALS), default=tuple(TRIALS), metavar="TRIAL", help="these trials alone")
     given, results = parser.parse_args(), Results()
     for name in given.only:

@@ -21,7 +21,6 @@ passed. It ends with status 1 if any failed. `trials/ending.py` tries what the l
 
 from __future__ import annotations
 
-import argparse
 import contextlib
 import os
 import pty
@@ -38,7 +37,7 @@ from abuse import FAULTS
 from dicom import create
 from ending import Launched, close_all, not_served, small_pipe, socket_pair
 from listeners import Counting
-from machine import HERE, holds
+from machine import described, holds
 from peer import GLOBAL, PUSH_ON, Asker, a_step, subscribe
 from results import Results
 
@@ -117,10 +116,7 @@ class Timed:
 
 
 def main() -> None:
-    about, _, more = (__doc__ or "").partition("\n\n")
-    parser = argparse.ArgumentParser(description=about, epilog=more, formatter_class=argparse.RawDescriptionHelpFormatter)
-    parser.add_argument("program", nargs="*", default=[os.path.join(HERE, "crates/upsd/out/upsd")],
-                        help="the program, and words before those of `serve` (default: crates/upsd/out/upsd, which `rt run` builds)")
+    parser = described(__doc__, "*")
     parser.add_argument("--requests", type=int, default=1000, help="how many requests there are (default: %(default)s)")
     given = parser.parse_args()
     signal.signal(signal.SIGALRM, lambda *_: sys.exit("standard_error.py: it does not end"))

@@ -61,7 +61,7 @@ sys.path[:0] = [os.path.join(TOP, it) for it in ("check/lib", "check", "trials/l
 import kills
 import stored
 from house import CALLED, House
-from machine import HERE, holds
+from machine import HERE, described, holds
 from machines import (CLIENTS, FLOATING, OFFICE, PATIENCE, PORT, SPACE, STORE, VOLUME, Machine, are_alike, await_up, make, network, run,
                       up)
 from results import Results
@@ -453,8 +453,7 @@ IN_ONE_GO = (("make",), ("up",), ("try",), ("down",), ("try", "hypervisor"), ("d
 
 
 def arguments() -> argparse.Namespace:
-    about, _, more = (__doc__ or "").partition("\n\n")
-    asked = argparse.ArgumentParser(description=about, epilog=more, formatter_class=argparse.RawDescriptionHelpFormatter)
+    asked = described(__doc__)
     asked.add_argument("command", choices=("make", "up", "try", "down", "all"))
     asked.add_argument("trials", nargs="*", metavar="TRIAL", help="what is tried (all but hypervisor)")
     asked.add_argument("--work", default="standby-machines", help="the folder for the machines (%(default)s)")

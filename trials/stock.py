@@ -21,7 +21,6 @@ itself. It prints a line for each trial that fails, and in the end how many pass
                  data set and the order. A State Report may be left out if a later one of its step came in time
 """
 
-import argparse
 import os
 import signal
 import socket
@@ -35,7 +34,7 @@ from typing import Optional
 sys.path.insert(0, os.path.join(os.path.dirname(os.path.dirname(os.path.abspath(__file__))), "check/lib"))
 import dicom
 from dicom import EXPLICIT, IMPLICIT, item, pdu
-from machine import HERE, free_port, holds, install
+from machine import HERE, described, free_port, holds, install
 from peer import Peer
 from results import Results
 from server import Server
@@ -497,10 +496,8 @@ def watch(watcher, results, name):
 
 
 def main():
-    parser = argparse.ArgumentParser(description=__doc__, formatter_class=argparse.RawDescriptionHelpFormatter)
+    parser = described(__doc__, "*")
     parser.add_argument("--no-reports", action="store_true", help="leave the trials of the watcher out: the server sends no reports")
-    parser.add_argument("program", nargs="*", default=[os.path.join(HERE, "crates/upsd/out/upsd")],
-                        help="the program, and words before those of `serve` (default: crates/upsd/out/upsd, which `rt run` builds)")
     asked = parser.parse_args()
     install({"echoscu": "dcmtk", "findscu": "dcmtk"})
     signal.signal(signal.SIGALRM, lambda *_: sys.exit(f"stock.py: not done in {ALL} seconds"))

@@ -15,7 +15,6 @@ prints a line for each trial, and then `N passed, M failed`. The exit status is 
 
 from __future__ import annotations
 
-import argparse
 import contextlib
 import os
 import re
@@ -29,7 +28,7 @@ import threading
 from typing import Iterator
 
 sys.path.insert(0, os.path.join(os.path.dirname(os.path.dirname(os.path.abspath(__file__))), "check/lib"))
-from machine import HERE, free_port, holds, install, listens
+from machine import HERE, described, free_port, holds, install, listens
 from results import Results
 from server import Server
 from stock import DONE, NO_ANSWER, by_client
@@ -186,10 +185,7 @@ def trials(program: list[str], folder: str, results: Results) -> None:
 
 
 def main() -> None:
-    about, _, more = (__doc__ or "").partition("\n\n")
-    asked = argparse.ArgumentParser(description=about, epilog=more, formatter_class=argparse.RawDescriptionHelpFormatter)
-    asked.add_argument("program", nargs="?", default=os.path.join(HERE, "crates/upsd/out/upsd"),
-                       help="the program (default: crates/upsd/out/upsd, which `rt run` builds)")
+    asked = described(__doc__, "?")
     given = asked.parse_args()
     install({"stunnel4": "stunnel4", "openssl": "openssl"})
     results = Results()

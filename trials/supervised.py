@@ -19,7 +19,6 @@ need strace, and the account root: they are left out without it.
 
 from __future__ import annotations
 
-import argparse
 import contextlib
 import os
 import re
@@ -34,7 +33,7 @@ from typing import Optional
 
 sys.path[:0] = [os.path.join(os.path.dirname(os.path.dirname(os.path.abspath(__file__))), it) for it in ("check/lib", "trials")]
 from disks import SERVES, Failing, Failure, attached
-from machine import holds, listens, pid_of
+from machine import described, holds, listens, pid_of
 from results import Results
 from server import Server
 from stored import Client, Stored, a_step_of, make_store
@@ -218,9 +217,7 @@ def sockets(folder: str) -> Iterator[tuple[str, dict[str, str]]]:
 
 
 def main() -> None:
-    about, _, more = (__doc__ or "").partition("\n\n")
-    asked = argparse.ArgumentParser(description=about, epilog=more, formatter_class=argparse.RawDescriptionHelpFormatter)
-    asked.add_argument("program", nargs="?", default="crates/upsd/out/upsd", help="the program (%(default)s, which `rt run` builds)")
+    asked = described(__doc__, "?")
     program, results = [os.path.abspath(asked.parse_args().program)], Results()
     with tempfile.TemporaryDirectory() as folder:
         for path in (os.path.join(folder, "supervisor"), f"@upsd-supervised-{os.getpid()}"):

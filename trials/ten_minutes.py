@@ -19,7 +19,6 @@ It prints a line for each check, and then `N passed, M failed`. The status is 1 
 
 from __future__ import annotations
 
-import argparse
 import os
 import re
 import shutil
@@ -28,7 +27,7 @@ import tempfile
 from typing import Optional
 
 sys.path.insert(0, os.path.join(os.path.dirname(os.path.dirname(os.path.abspath(__file__))), "check/lib"))
-from machine import free_port, holds, install
+from machine import described, free_port, holds, install
 from peer import GLOBAL
 from results import Results
 from stored import Client, Stored, a_step_of
@@ -112,9 +111,7 @@ def compare_starts(program: list[str], folder: str, file: str, options: list[str
 
 
 def main() -> None:
-    about, _, more = (__doc__ or "").partition("\n\n")
-    asked = argparse.ArgumentParser(description=about, epilog=more, formatter_class=argparse.RawDescriptionHelpFormatter)
-    asked.add_argument("program", nargs="?", default="crates/upsd/out/upsd", help="the program (%(default)s, which `rt run` builds)")
+    asked = described(__doc__, "?")
     program, results = [os.path.abspath(asked.parse_args().program)], Results()
     install({"faketime": "faketime"})
     with tempfile.TemporaryDirectory() as folder:

@@ -15,7 +15,6 @@ command, and then `N passed, M failed`. The exit status is 1 if any failed.
 
 from __future__ import annotations
 
-import argparse
 import contextlib
 import dataclasses
 import os
@@ -28,7 +27,7 @@ import sys
 from typing import Iterator, Optional
 
 sys.path.insert(0, os.path.join(os.path.dirname(os.path.dirname(os.path.abspath(__file__))), "check/lib"))
-from machine import HERE, holds, install, listens
+from machine import HERE, described, holds, install, listens
 from results import Results
 
 PROGRAM = "crates/upsd/out/upsd"
@@ -154,8 +153,7 @@ def tour(commands: list[Command], program: str, results: Results) -> None:
 
 
 def main() -> None:
-    about, _, more = (__doc__ or "").partition("\n\n")
-    asked = argparse.ArgumentParser(description=about, epilog=more, formatter_class=argparse.RawDescriptionHelpFormatter)
+    asked = described(__doc__)
     asked.add_argument("--program", metavar="PATH", help=f"a program that is built already (default: {PROGRAM}, built by `rt run`)")
     given = asked.parse_args()
     install({})

@@ -40,7 +40,7 @@ from typing import Optional
 sys.path.insert(0, os.path.join(os.path.dirname(os.path.dirname(os.path.abspath(__file__))), "check/lib"))
 from dicom import create
 from listeners import Counting, Mute, Silent
-from machine import HERE, holds
+from machine import described, holds
 from peer import GLOBAL, PUSH_ON, Asker, a_step, subscribe
 from results import Results
 from server import Server
@@ -219,10 +219,7 @@ def try_one(program: list[str], name: str, given: argparse.Namespace, results: R
 
 
 def main() -> None:
-    about, _, more = (__doc__ or "").partition("\n\n")
-    parser = argparse.ArgumentParser(description=about, epilog=more, formatter_class=argparse.RawDescriptionHelpFormatter)
-    parser.add_argument("program", nargs="?", default=os.path.join(HERE, "crates/upsd/out/upsd"),
-                        help="the program (default: crates/upsd/out/upsd, which `rt run` builds)")
+    parser = described(__doc__, "?")
     parser.add_argument("--only", nargs="+", choices=TRIALS, default=TRIALS, metavar="TRIAL", help="these trials alone")
     parser.add_argument("--steps", type=int, default=20, help="how many steps are pushed (default: %(default)s)")
     parser.add_argument("--median", type=float, default=0.1, help="seconds (default: %(default)s)")

@@ -64,7 +64,7 @@ sys.path.insert(0, os.path.join(os.path.dirname(os.path.dirname(os.path.abspath(
 from dicom import act, create, data, find, items, set_attributes
 from ledger import LABEL, PERFORMED, PROGRESS, SOP_INSTANCE, STATE, TRANSACTION, Fault
 from listeners import Incoming
-from machine import holds, pid_of, resident
+from machine import described, holds, pid_of, resident
 from peer import GLOBAL, PULL_ON, PUSH_ON, a_step, claim, subscribe, told, unsubscribe
 from results import Results
 from server import Server, as_service
@@ -571,9 +571,7 @@ def run(program: str, folder: str, watchers: list[Watcher], given: argparse.Name
 
 
 def main() -> None:
-    about, _, more = (__doc__ or "").partition("\n\n")
-    asked = argparse.ArgumentParser(description=about, epilog=more, formatter_class=argparse.RawDescriptionHelpFormatter)
-    asked.add_argument("program", nargs="?", default="crates/upsd/out/upsd", help="the program (%(default)s, which `rt run` builds)")
+    asked = described(__doc__, "?")
     asked.add_argument("--entries", type=int, default=3_000_000, help="how many requests are accepted, 10000 at least (%(default)s)")
     asked.add_argument("--longest", type=int, default=250, help="milliseconds that an N-GET may take (%(default)s)")
     asked.add_argument("--rate", type=int, default=10_000, help="how many are accepted a second, 0 for as many as may be (%(default)s)")

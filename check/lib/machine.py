@@ -11,18 +11,29 @@ import subprocess
 import sys
 import time
 from collections.abc import Callable
-from typing import Any
+from typing import Any, Optional
 
 HERE = os.path.dirname(os.path.dirname(os.path.dirname(os.path.abspath(__file__))))  # the top of the checkout
+BUILT = "crates/upsd/out/upsd"  # the program that `rt run` builds there
 PYTHON = "/usr/bin/python3"
 SHELLS = ("sh", "bash", "dash", "env", "strace", "nice", "time")
 
 
-def arguments(about: str, *numbers: tuple[str, int, str]) -> argparse.Namespace:
+def described(doc: Optional[str], program: str = "") -> argparse.ArgumentParser:
+    """Returns the parser of a script with this docstring. It may take a program: one word (?), or several, with what goes before
+    those of `serve` (*)."""
+    about, _, more = (doc or "").partition("\n\n")
+    parser = argparse.ArgumentParser(description=about, epilog=more, formatter_class=argparse.RawDescriptionHelpFormatter)
+    built = os.path.join(HERE, BUILT)
+    if program:
+        parser.add_argument("program", nargs=program, default=[built] if program == "*" else built,
+                            help=f"the program{', and words before those of `serve`' * (program == '*')} ({BUILT}, which `rt run` builds)")
+    return parser
+
+
+def arguments(about: Optional[str], *numbers: tuple[str, int, str]) -> argparse.Namespace:
     """Returns the program and the numbers of the command line; each number is given here by name, default and meaning."""
-    parser = argparse.ArgumentParser(description=about, formatter_class=argparse.RawDescriptionHelpFormatter)
-    built = "crates/upsd/out/upsd"
-    parser.add_argument("program", nargs="?", default=built, help=f"the program ({built}, which `rt run` builds)")
+    parser = described(about, "?")
     for name, default, what in numbers:
         parser.add_argument(name, nargs="?", type=int, default=default, help=f"{what} ({default:,})")
     return parser.parse_args()
