@@ -23,9 +23,9 @@ import sys
 
 TOP = os.path.dirname(os.path.dirname(os.path.abspath(__file__)))
 sys.path.insert(0, f"{TOP}/check/lib")
+import edit_trials
+import lanes
 from machine import described
-import edits  # noqa: E402
-import lanes  # noqa: E402
 
 LIST = f"{TOP}/check/edits.txt"
 # An edit that means the same, and one that names what is not there.
@@ -60,7 +60,7 @@ def counts() -> dict[str, int]:
     return collections.Counter(it.partition("/")[0] for it in names_of(files_of("*")))
 
 
-def named(words: list[str]) -> list[edits.Edit]:
+def named(words: list[str]) -> list[edit_trials.Edit]:
     """Returns the edits that the words name, each a crate or CRATE/EDIT."""
     found = []
     for word in words:
@@ -68,7 +68,7 @@ def named(words: list[str]) -> list[edits.Edit]:
         files = files_of(crate, edit or "*")
         if not files:
             sys.exit(f"edits.py: no such edit: {word}")
-        found += [edits.read(TOP, crate, it) for it in files]
+        found += [edit_trials.read(TOP, crate, it) for it in files]
     return found
 
 
@@ -80,10 +80,10 @@ def tell(crate: str, results: dict[str, tuple[bool, str]]) -> None:
 
 def self_test() -> int:
     """Tries the planted edits, and returns how many were taken for refused."""
-    planted = [edits.Edit("ups_cycle", name, [pair], "cycle::claim_status") for name, pair in (("same", SAME), ("unreadable", UNREADABLE))]
+    planted = [edit_trials.Edit("ups_cycle", name, [pair], "cycle::claim_status") for name, pair in (("same", SAME), ("unreadable", UNREADABLE))]
     told = {}
     for edit in planted:
-        edits.tried(TOP, [edit], 1, lambda _, results: told.update(results))
+        edit_trials.tried(TOP, [edit], 1, lambda _, results: told.update(results))
     wrong = [name for name, (is_refused, _) in told.items() if is_refused]
     print(f"{len(planted) - len(wrong)} planted edits told, {len(wrong)} not")
     return len(wrong)
@@ -102,7 +102,7 @@ def main() -> int:
     if given.self_test:
         return 1 if self_test() else 0
     chosen = named(given.edits or listed())
-    failed = edits.tried(TOP, chosen, lanes.count(), tell)
+    failed = edit_trials.tried(TOP, chosen, lanes.count(), tell)
     print(f"{len(chosen) - failed} edits refused, {failed} not")
     return 1 if failed else 0
 

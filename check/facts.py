@@ -158,7 +158,7 @@ def faults_of_marks(files: Texts, values: dict[str, Value]) -> Iterator[str]:
         if name not in values or not told:
             yield f"{place(path, text, end)}: {mark[0]} names no fact, or has no number behind it: {text[end:end + 20]!r}"
             continue
-        unit = re.match(r" ?(\w*)", text[told.end():])[1]
+        unit = re.findall(r"\A ?(\w*)", text[told.end():])[0]
         if told[0] != (wanted := spelled(name, values[name], unit)):
             yield f"{place(path, text, end)}: {name} is told as {told[0]} {unit}, and is {wanted}"
     for path, text in files.items():
@@ -386,7 +386,8 @@ def faults_of_kinds(files: Texts) -> Iterator[str]:
 
 def paragraphs_in(text: str) -> Iterator[tuple[int, str]]:
     """Yields the paragraphs of a page: the line of each, and its text without marks. Code is none, an item of a list is one."""
-    lines, at, is_code = [], 0, False
+    lines: list[str] = []
+    at, is_code = 0, False
     for number, line in enumerate([*MARK.sub("", text).split("\n"), ""], 1):
         is_fence = line.startswith("```")
         if lines and (not line or is_fence or BREAK.match(line)):
@@ -404,8 +405,8 @@ def faults_of_layout(files: Texts) -> Iterator[str]:
         for line, paragraph in paragraphs_in(text):
             if len(paragraph) > PARAGRAPH:
                 yield f"{path}:{line}: a paragraph of {len(paragraph)} letters, and at most {PARAGRAPH}"
-        for number, line in enumerate(MARK.sub("", text).split("\n"), 1):
-            longest = max((len(it.strip()) for it in re.split(r"(?<!\\)\|", line)), default=0) if line.startswith("|") else 0
+        for number, row in enumerate(MARK.sub("", text).split("\n"), 1):
+            longest = max((len(it.strip()) for it in re.split(r"(?<!\\)\|", row)), default=0) if row.startswith("|") else 0
             if longest > CELL:
                 yield f"{path}:{number}: a cell of {longest} letters, and at most {CELL}"
     sizes = {"docs": sum(len(it.encode()) for path, it in pages.items() if path.startswith("docs/") and "/pictures/" not in path),

@@ -24,6 +24,8 @@ answers, by an end of its data or by a reset. The log says how it ends, and an u
 It prints how many failures were tried, and each that had an unexpected outcome; the status is 1 if there is one.
 """
 
+from __future__ import annotations
+
 import collections
 import contextlib
 import itertools
@@ -35,6 +37,9 @@ import string
 import struct
 import sys
 import time
+from collections.abc import Iterator, Mapping, Sequence
+from subprocess import TimeoutExpired
+from typing import Any, Optional, Protocol
 
 sys.path.insert(0, os.path.join(os.path.dirname(os.path.dirname(os.path.abspath(__file__))), "check/lib"))
 import courses
@@ -52,10 +57,25 @@ WRITE = (2, b"upsd: a write failed\n")
 BROKEN = (2, b"upsd: a read failed\n")
 WELL = (0, b"")
 WAIT = 30  # seconds for all watchers
-GIVEN = {"every": 7}  # what the command line sets
+GIVEN: dict[str, Any] = {"every": 7}  # what the command line sets
+Outcome = tuple[dict[str, int], list[str]]  # how many failures were tried, by kind, and those with an unexpected outcome
+Way = tuple[int, str]  # the place where the answer of a watcher ends, and how
 
 
-def quick(words, given, room=None):
+class Task(Protocol):
+    """What is tried: it has a name, says with which program, and tells the outcome."""
+
+    name: str
+
+    @property
+    def program(self) -> str: ...
+
+    def spoiled(self) -> Task: ...
+
+    def tried(self, program: str) -> Outcome: ...
+
+
+def quick(words: list[str], given: bytes, room: Optional[int] = None) -> tuple[int, bytes, bytes]:
     """Runs a program on an input that ends after the bytes `given`, with room for `room` bytes of output."""
     source, giver = os.pipe()
     os.write(giver, given)
@@ -74,7 +94,7 @@ def quick(words, given, room=None):
             os.close(it)
 
 
-def ends_of(pdus):
+def ends_of(pdus: bytes) -> list[int]:
     """Returns where the PDUs of bytes begin, and where the last one ends if it is complete."""
     ends = [0]
     while ends[-1] + 6 <= len(pdus):
@@ -82,7 +102,7 @@ def ends_of(pdus):
     return [it for it in ends if it <= len(pdus)]
 
 
-def places(length, ends):
+def places(length: int, ends: list[int]) -> list[int]:
     """Returns the places from 0 to `length` to try: those around each end of a PDU and after its header, and others."""
     near = {it + more for it in ends for more in (-1, 0, 1, 5, 6, 7)}
     return [it for it in range(length + 1) if it in near or it % GIVEN["every"] == 0]
@@ -93,14 +113,14 @@ class Memory:
 
     program = "refusals"
 
-    def __init__(self, course):
+    def __init__(self, course: courses.Course) -> None:
         self.course, self.name = course, course.name
 
-    def spoiled(self):
+    def spoiled(self) -> Memory:
         """Returns the same with another expected outcome."""
         return Memory(self.course.spoiled()[0])
 
-    def tried(self, program):
+    def tried(self, program: str) -> Outcome:
         """Refuses each, and returns how many there are, and the unexpected outcome."""
         try:
             count, _ = self.course.failures(program)
@@ -114,17 +134,18 @@ class Ends:
 
     program = "upsd"
 
-    def __init__(self, session):
+    def __init__(self, session: rows.Session) -> None:
         self.session, self.name = session, session.name
 
-    def spoiled(self):
+    def spoiled(self) -> Ends:
         """Returns the same with another expected answer."""
         return Ends(self.session.spoiled()[0])
 
-    def tried(self, program):
+    def tried(self, program: str) -> Outcome:
         """Ends the input at each, and returns how many there are, and the unexpected outcomes."""
         asked, ends = self.session.asked, ends_of(self.session.asked)
-        tried, due, faults = places(len(asked), ends), b"", []
+        tried, due = places(len(asked), ends), b""
+        faults: list[str] = []
         for place in tried:
             status, answer, said = quick([program, "pipe", "--ae", "UPSD"], asked[:place])
             if place in ends:
@@ -135,7 +156,7 @@ class Ends:
                 faults.append(f"at {place}: {why}")
         return {"ends of an input": len(tried)}, faults
 
-    def unlike(self, place, is_end, due, answer, ended):
+    def unlike(self, place: int, is_end: bool, due: bytes, answer: bytes, ended: tuple[int, bytes]) -> Optional[str]:
         """Returns how the outcome of an end differs from the expected one; None if it does not."""
         whole = self.session.answered
         is_over = answer == whole and rows.ended_of(runs.Ran(ended[0], answer, ended[1])) == self.ended()
@@ -145,7 +166,7 @@ class Ends:
             return f"it answers {answer!r} and not {due!r}"
         return None if ended == (WELL if is_end else READ) else f"it ends as {ended}"
 
-    def ended(self):
+    def ended(self) -> str:
         """Returns how the whole association ends, as far as the program reports it."""
         return "Ok" if self.session.ended.startswith("Ok") else self.session.ended
 
@@ -155,14 +176,14 @@ class Rooms:
 
     program = "upsd"
 
-    def __init__(self, name, words, asked, answered):
+    def __init__(self, name: str, words: Sequence[str], asked: bytes, answered: bytes) -> None:
         self.name, self.words, self.asked, self.answered = name, words, asked, answered
 
-    def spoiled(self):
+    def spoiled(self) -> Rooms:
         """Returns the same with another expected answer."""
         return Rooms(self.name, self.words, self.asked, b"X" + self.answered)
 
-    def tried(self, program):
+    def tried(self, program: str) -> Outcome:
         """Leaves room for each, and returns how many there are, and the unexpected outcomes."""
         tried = places(len(self.answered), ends_of(self.answered))[:-1]
         faults = []
@@ -178,14 +199,14 @@ class Shaken:
 
     program = "upsd"
 
-    def __init__(self, session):
+    def __init__(self, session: rows.Session) -> None:
         self.session, self.name = session, session.name
 
-    def spoiled(self):
+    def spoiled(self) -> Shaken:
         """Returns the same with another expected answer."""
         return Shaken(self.session.spoiled()[0])
 
-    def tried(self, program):
+    def tried(self, program: str) -> Outcome:
         """Shakes it, and returns how many bytes there are, and the unexpected outcome."""
         ran = runs.run_shaken([program, "pipe", "--ae", "UPSD"], self.session.asked)
         count = len(self.session.asked) + len(self.session.answered)
@@ -198,17 +219,18 @@ class Breaks:
 
     program = "upsd"
 
-    def __init__(self, script):
+    def __init__(self, script: rows.Script) -> None:
         self.script, self.name = script, script.name
 
-    def spoiled(self):
+    def spoiled(self) -> Breaks:
         """Returns the same with other expected replies."""
         return Breaks(self.script.spoiled()[0])
 
-    def tried(self, program):
+    def tried(self, program: str) -> Outcome:
         """Breaks it off at each, and returns how many there are, and the unexpected outcomes."""
         given, replies = self.script.script.encode(), self.script.replies.encode().splitlines(keepends=True)
-        tried, faults = range(0, len(given), GIVEN["every"]), []
+        tried = range(0, len(given), GIVEN["every"])
+        faults: list[str] = []
         for place in tried:
             due = b"".join(replies[:given[:place].count(b"\n")])
             with runs.broken(given[:place]) as source:
@@ -223,25 +245,25 @@ class Watchers:
 
     program = "upsd"
 
-    def __init__(self, name, subscribed, created, taken, heard):
+    def __init__(self, name: str, subscribed: tuple[bytes, bytes, bytes], created: bytes, taken: list[bytes], heard: list[bytes]) -> None:
         self.name, self.subscribed, self.created = name, subscribed, created
         self.taken, self.heard = taken, heard
 
-    def spoiled(self):
+    def spoiled(self) -> Watchers:
         """Returns the same with other bytes for the watchers to hear."""
         return Watchers(self.name, self.subscribed, self.created, self.taken, [b"X" + self.heard[0], *self.heard[1:]])
 
-    def titles(self):
+    def titles(self) -> dict[str, Way]:
         """Returns each place with each way to end, up to 1,000, by a title of two letters or digits."""
         letters = string.ascii_letters + string.digits
         names = ("".join(pair) for pair in itertools.product(letters, letters))
         ways = itertools.product(range(len(b"".join(self.taken)) + 1), ("end", "reset"))
         return dict(zip(names, list(ways)[:1000]))
 
-    def tried(self, program):
+    def tried(self, program: str) -> Outcome:
         """Runs a server with these watchers, and returns how many there are, and the unexpected outcomes."""
         titles = self.titles()
-        heard = {it: [] for it in titles}
+        heard: dict[str, list[bytes]] = {it: [] for it in titles}
         with socket.create_server(("127.0.0.1", 0), backlog=1000) as listener:
             place = listener.getsockname()[1]
             with runs.logging(program, [f"{it}=127.0.0.1:{place}" for it in titles]) as (log, server):
@@ -251,14 +273,14 @@ class Watchers:
         faults = [f"watcher at {titles[it]}: {why}" for it in titles if (why := self.unlike(it, titles[it], heard[it], told))]
         return {"watchers that end or reset": len(titles)}, faults
 
-    def subscribe(self, port, titles):
+    def subscribe(self, port: int, titles: Mapping[str, Way]) -> None:
         """Subscribes each watcher to all steps, and creates a step."""
         first, subscription, last = self.subscribed
         each = b"".join(subscription.replace(b"W1", it.encode()) for it in titles)
         with runs.connected(port) as connection:
             runs.exchange(connection, first + each + self.created + last)
 
-    def listen(self, listener, titles, heard):
+    def listen(self, listener: socket.socket, titles: Mapping[str, Way], heard: dict[str, list[bytes]]) -> None:
         """Answers associations until each watcher has had as many as expected, or the time is over."""
         end = time.monotonic() + WAIT
         listener.settimeout(1)
@@ -268,12 +290,12 @@ class Watchers:
                     connection.settimeout(5)
                     self.answer(connection, titles, heard)
 
-    def associations(self, way):
+    def associations(self, way: Way) -> int:
         """Returns how many associations a watcher should have: two, unless the first acknowledges the report."""
         place, _ = way
         return 1 if place >= len(b"".join(self.taken[:2])) else 2
 
-    def answer(self, connection, titles, heard):
+    def answer(self, connection: socket.socket, titles: Mapping[str, Way], heard: dict[str, list[bytes]]) -> None:
         """Answers an association: the first of a watcher up to its place, and each other one in full, byte by byte."""
         proposed = received(connection, len(self.heard[0]))
         title = proposed[10:26].decode(errors="replace").strip()
@@ -294,7 +316,7 @@ class Watchers:
             connection.shutdown(socket.SHUT_WR)
         heard[title][-1] += runs.rest_of(connection)
 
-    def unlike(self, title, way, heard, told):
+    def unlike(self, title: str, way: Way, heard: list[bytes], told: str) -> Optional[str]:
         """Returns how what a watcher heard, or its end in the log, is not as expected; None if both are."""
         place, how = way
         due = [it.replace(b"W1", title.encode()) for it in self.heard]
@@ -303,7 +325,7 @@ class Watchers:
         found = re.search(rf"deliver {title}: (\w+)", told)
         ended = found[1] if found else None
         if how == "reset":
-            is_due = heard[:1] == due[:1] and (count > 1 and ended or ended in ("Read", "Write", "Closed"))
+            is_due = heard[:1] == due[:1] and (count > 1 and bool(ended) or ended in ("Read", "Write", "Closed"))
         else:
             wanted = "Released" if place == ends[-1] else "Closed" if place in ends else "Read"
             is_due = heard[:1] == [b"".join(due[:count + 1])] and ended == wanted
@@ -314,7 +336,7 @@ class Watchers:
         return None
 
 
-def received(connection, length):
+def received(connection: socket.socket, length: int) -> bytes:
     """Returns the next `length` bytes of a connection, or as many as there are."""
     found = b""
     while len(found) < length and (more := connection.recv(length - len(found))):
@@ -322,7 +344,7 @@ def received(connection, length):
     return found
 
 
-def course_of(script):
+def course_of(script: rows.Script) -> Optional[courses.Course]:
     """Returns a script as a course; None if it is too long, has lines without a reply, or options or peers that a course lacks."""
     lines, replies = script.script.splitlines(), script.replies.splitlines()
     is_known = script.words in (["script"], ["script", *rows.PEERS])
@@ -334,9 +356,10 @@ def course_of(script):
     return courses.Course(script.name, courses.parts_of({}, ["script", *texts], str))
 
 
-def devices_of(file):
+def devices_of(file: str) -> Iterator[Task]:
     """Yields what is tried with the associations of a file."""
-    sessions = [it for it in rows.rows_of(file) if not (it.what or it.is_hexadecimal or len(it.asked) > SMALL)]
+    every = [it for it in rows.rows_of(file) if isinstance(it, rows.Session)]
+    sessions = [it for it in every if not (it.what or it.is_hexadecimal or len(it.asked) > SMALL)]
     for number, session in enumerate(sessions):
         yield Ends(session)
         if session.answered:
@@ -345,11 +368,11 @@ def devices_of(file):
             yield Shaken(session)
 
 
-def watchers_of(file):
+def watchers_of(file: str) -> Iterator[Task]:
     """Yields the watchers that the names of a file of deliveries describe."""
     names = dicom.stored() | rows.names_in(file)
 
-    def given(words):
+    def given(words: str) -> bytes:
         return dicom.bytes_of(names, words)
 
     yield Watchers(
@@ -361,7 +384,7 @@ def watchers_of(file):
     )
 
 
-def tasks_of(file):
+def tasks_of(file: str) -> Iterator[Task]:
     """Yields what is tried with a file of rows, or a folder of examples."""
     if os.path.isdir(file):
         for script in rows.examples_of(file):
@@ -375,23 +398,24 @@ def tasks_of(file):
         yield from devices_of(file)
     elif os.path.basename(file) in COURSES:
         for row in rows.rows_of(file):
-            if course := row if isinstance(row, courses.Course) else course_of(row):
-                yield Memory(course)
+            made = course_of(row) if isinstance(row, rows.Script) else row
+            if isinstance(made, courses.Course):
+                yield Memory(made)
 
 
-TASKS = []
+TASKS: list[Task] = []
 
 
-def tried(number):
+def tried(number: int) -> tuple[int, dict[str, int], list[str]]:
     """Runs a task, and returns its number, its counts and its faults."""
     task = TASKS[number]
     try:
         return number, *task.tried(GIVEN[task.program])
-    except (runs.TimeoutExpired, OSError, ValueError) as fault:
+    except (TimeoutExpired, OSError, ValueError) as fault:
         return number, {}, [f"{type(fault).__name__}: {fault}"]
 
 
-def main():
+def main() -> None:
     asked = described(__doc__)
     asked.add_argument("files", nargs="+", metavar="FILE", help="a file of rows, or a folder of examples")
     asked.add_argument("--program", default="crates/upsd/out/upsd", help="the program (default: %(default)s)")
@@ -403,7 +427,8 @@ def main():
     found = [task for file in given.files for task in tasks_of(file)]
     TASKS.extend(task.spoiled() for task in found) if given.self_test else TASKS.extend(found)
     TASKS.sort(key=lambda task: not isinstance(task, (Memory, Watchers)))
-    counts, failed = collections.Counter(), 0
+    counts: collections.Counter[str] = collections.Counter()
+    failed = 0
     with multiprocessing.get_context("fork").Pool(len(os.sched_getaffinity(0))) as pool:
         for number, count, faults in pool.imap_unordered(tried, range(len(TASKS))):
             if given.self_test:
@@ -412,8 +437,8 @@ def main():
             failed += len(faults)
             for fault in faults[:3]:
                 print(f"{TASKS[number].name}: {fault}")
-    for what, count in sorted(counts.items()):
-        print(f"{count} {what}")
+    for what, times in sorted(counts.items()):
+        print(f"{times} {what}")
     print(f"{len(TASKS)} rows, {failed} failures that came to something else")
     sys.exit(1 if failed else 0)
 

@@ -16,15 +16,15 @@ import random
 import shutil
 import threading
 import time
-from typing import Optional
+from typing import Optional, Union
 
 import making
 from dicom import PUSH, even, step
-from ledger import CANCELED, COMPLETED, LABEL, PROGRESS, SCHEDULED, SOP_CLASS, SOP_INSTANCE, STATE, Attributes, compare, read
+from ledger import CANCELED, COMPLETED, LABEL, PROGRESS, SCHEDULED, SOP_CLASS, SOP_INSTANCE, STATE, Attributes, Fault, compare, read
 from machine import holds
 from peer import GLOBAL, told
 from results import Results
-from stored import (FAULTS, READINESS, READY, SECONDS, WAITING, Client, Fault, Hearing, Report, Stored, copy_of, folder_for,
+from stored import (FAULTS, READINESS, READY, SECONDS, WAITING, Client, Hearing, Report, Stored, copy_of, folder_for,
                     performed, text_in)
 
 WORKSTATIONS = 4
@@ -79,6 +79,12 @@ class Step:
         self.watches = {SINGLE: Watch(), PLAIN: Watch()}
         self.seen = (-1, -1)  # the greatest rank and version that anybody was shown
         self.given = step(True, {PATIENT: (b"LO", even(patient, b" "))})
+
+    @property
+    def known(self) -> Known:
+        """Returns what is known of it, once a request about it was answered."""
+        assert self.now
+        return self.now
 
     def see(self, rank: int, version: int) -> None:
         self.seen = max(self.seen[0], rank), max(self.seen[1], version)
@@ -144,10 +150,11 @@ class Plan:
 class Workstation:
     """A workstation that sends requests until the connection ends."""
 
+    client: Client  # once it runs
+
     def __init__(self, plan: Plan, number: int, seed: int) -> None:
         self.plan, self.number = plan, number
         self.chance = random.Random(f"{seed} workstation {number}")
-        self.client: Optional[Client] = None
         self.fault: Optional[str] = None
 
     def run(self, port: int, over: threading.Event) -> None:
@@ -192,7 +199,7 @@ class Workstation:
 
     def claim(self, it: Step) -> None:
         transaction = self.plan.new_transaction()
-        becomes = self.about(it, dataclasses.replace(it.now, state=b"IN PROGRESS", transaction=transaction))
+        becomes = self.about(it, dataclasses.replace(it.known, state=b"IN PROGRESS", transaction=transaction))
         due = (0x0000, 0xC302, 0xC300) if it.is_offered else (0x0000,)
         if self.ask(it, becomes, self.client.change(it.uid, b"IN PROGRESS", transaction), due):
             it.holder = self.number
@@ -200,21 +207,21 @@ class Workstation:
             it.see(1, -1)  # it tells that another one has it
 
     def set(self, it: Step) -> None:
-        becomes = self.about(it, dataclasses.replace(it.now, version=it.now.version + 1))
-        self.ask(it, becomes, self.client.set(it.uid, performed(becomes.version), it.now.transaction))
+        becomes = self.about(it, dataclasses.replace(it.known, version=it.known.version + 1))
+        self.ask(it, becomes, self.client.set(it.uid, performed(becomes.version), it.known.transaction))
 
     def prepare(self, it: Step) -> None:
         """Changes whether its input is ready, which watchers are told."""
-        becomes = self.about(it, turned(it.now))
-        self.ask(it, becomes, self.client.set(it.uid, told(*READINESS, b"CS", becomes.readiness), it.now.transaction))
+        becomes = self.about(it, turned(it.known))
+        self.ask(it, becomes, self.client.set(it.uid, told(*READINESS, b"CS", becomes.readiness), it.known.transaction))
 
     def finish(self, it: Step) -> None:
         state = self.chance.choice((b"COMPLETED", b"CANCELED"))
-        becomes = self.about(it, dataclasses.replace(it.now, state=state))
-        self.ask(it, becomes, self.client.change(it.uid, state, it.now.transaction))
+        becomes = self.about(it, dataclasses.replace(it.known, state=state))
+        self.ask(it, becomes, self.client.change(it.uid, state, it.known.transaction or b""))
 
     def cancel(self, it: Step) -> None:
-        becomes = self.about(it, dataclasses.replace(it.now, state=b"CANCELED", is_asked_away=True))
+        becomes = self.about(it, dataclasses.replace(it.known, state=b"CANCELED", is_asked_away=True))
         self.ask(it, becomes, self.client.cancel(it.uid))
 
     def watch(self, it: Step) -> None:
@@ -226,9 +233,9 @@ class Workstation:
     def choose(self) -> None:
         """Sends one request."""
         mine = [it for it in list(self.plan.steps.values())[-60:] if it.owner == self.number and it.now and not it.is_offered and not it.asked]
-        held = [it for it in list(self.plan.steps.values())[-120:] if it.holder == self.number and it.now.state == b"IN PROGRESS"]
+        held = [it for it in list(self.plan.steps.values())[-120:] if it.holder == self.number and it.known.state == b"IN PROGRESS"]
         offered = [it for it in list(self.plan.steps.values())[-60:] if it.is_offered and it.now and it.now.rank == 0]
-        fresh = [it for it in mine if it.now.rank == 0]
+        fresh = [it for it in mine if it.known.rank == 0]
         kind = self.chance.random()
         if kind < 0.22 or not mine:
             self.create()
@@ -240,8 +247,8 @@ class Workstation:
             self.set(self.chance.choice(held))
         elif kind < 0.75 and held:
             self.prepare(self.chance.choice(held))
-        elif kind < 0.85 and any(it.now.version for it in held):
-            self.finish(self.chance.choice([it for it in held if it.now.version]))
+        elif kind < 0.85 and any(it.known.version for it in held):
+            self.finish(self.chance.choice([it for it in held if it.known.version]))
         elif kind < 0.87 and fresh:
             self.cancel(self.chance.choice(fresh))
         elif kind < 0.92 and fresh:
@@ -313,6 +320,7 @@ class Trial:
         self.plan = Plan(seed)
         self.workstations = [Workstation(self.plan, it, seed) for it in range(WORKSTATIONS)]
         self.reader = Reader(self.plan, seed)
+        self.workers: list[Union[Workstation, Reader]] = [*self.workstations, self.reader]
         self.watchers = {title: Hearing() for title in (ALL_OF, SINGLE, PLAIN)}
         self.peers = [f"{title.decode()}={it.place}{',lock' if title == SINGLE else ''}" for title, it in self.watchers.items()]
         self.is_watched = False
@@ -336,7 +344,7 @@ class Trial:
             self.longest = max(self.longest, server.took)
             self.judge(server)
             over = threading.Event()
-            threads = [threading.Thread(target=it.run, args=(server.port, over), daemon=True) for it in (*self.workstations, self.reader)]
+            threads = [threading.Thread(target=it.run, args=(server.port, over), daemon=True) for it in self.workers]
             for it in threads:
                 it.start()
             time.sleep(seconds)
@@ -387,7 +395,7 @@ class Trial:
         if not good:
             return
         is_open = len(good) > 1 and it.now not in good  # claims by several workstations, one of which was done
-        it.now = self.holder_of(client, it, good) if is_open else good[0]
+        it.now = self.holder_of(client, it, [known for known in good if known]) if is_open else good[0]
         it.asked.clear()
         found = (it.now.rank, it.now.version) if it.now else (-1, -1)
         is_less = found[0] < it.seen[0] or found[1] < it.seen[1]
@@ -444,8 +452,8 @@ class Trial:
                 watch.asked.clear()
         self.await_watchers("each watcher learns what each step is", both)
         for it in [it for it in both if it.now and it.now.rank < 2]:
-            becomes = turned(it.now)
-            status = client.set(it.uid, told(*READINESS, b"CS", becomes.readiness), it.now.transaction)
+            becomes = turned(it.known)
+            status = client.set(it.uid, told(*READINESS, b"CS", becomes.readiness), it.known.transaction)
             self.told("each answer is due", wrong(it, "a set of its readiness", status, 0x0000))
             it.now = becomes
         self.await_watchers("each subscription stands", both)
@@ -462,8 +470,8 @@ class Trial:
             watching = [ALL_OF] + [title for title, watch in it.watches.items() if watch.lock is not None]
             for title in watching:
                 last = self.watchers[title].last.get(it.uid)
-                if not last or last.shown() != it.now.shown():
-                    faults.append(f"{title.decode()} of {it.uid.decode()}: {last and last.shown()}, and it is {it.now.shown()}")
+                if not last or last.shown() != it.known.shown():
+                    faults.append(f"{title.decode()} of {it.uid.decode()}: {last and last.shown()}, and it is {it.known.shown()}")
         return faults
 
     def judge_locks(self, folder: str) -> None:
@@ -494,13 +502,13 @@ def wrong(it: Step, what: str, status: int, due: int) -> Optional[str]:
 def lie(trial: Trial, kind: str) -> None:
     """Records as answered what was not requested."""
     steps = [it for it in trial.plan.steps.values() if it.now and not it.asked]
-    held = [it for it in steps if it.now.rank == 1]
+    held = [it for it in steps if it.known.rank == 1]
     if kind == "create":
         it = trial.plan.new_step(0)
         it.now = Known()
     elif kind == "set":
         it = held[-1]
-        it.now = dataclasses.replace(it.now, version=it.now.version + 1)
+        it.now = dataclasses.replace(it.known, version=it.known.version + 1)
     elif kind == "claim":
         it = held[-1]
         it.now = dataclasses.replace(it.now, transaction=trial.plan.new_transaction())
@@ -511,14 +519,14 @@ def lie(trial: Trial, kind: str) -> None:
         it = next(it for it in held if it.watches[SINGLE].lock is None)
         it.watches[SINGLE].lock = False
     elif kind == "lock":
-        it = next(it for it in steps if it.now.rank == 2 and not it.watches[SINGLE].lock)
+        it = next(it for it in steps if it.known.rank == 2 and not it.watches[SINGLE].lock)
         it.watches[SINGLE].lock = True
     elif kind == "tell":
         it = next(it for it in held)
         trial.watchers[PLAIN].last[it.uid] = next(last for last in trial.watchers[ALL_OF].last.values() if last.shown()[0] == b"CANCELED")
     else:
         it = held[-1]
-        it.see(1, it.now.version + 1)
+        it.see(1, it.known.version + 1)
     trial.plan.touched.add(it.uid)
 
 

@@ -12,7 +12,7 @@ import sys
 EACH = 3_500_000_000
 
 
-def free():
+def free() -> int:
     """Returns the bytes of free memory, or the limit of the control group if that is less."""
     with open("/proc/meminfo", encoding="ascii") as lines:
         found = [1024 * int(line.split()[1]) for line in lines if line.startswith("MemAvailable:")]
@@ -24,7 +24,7 @@ def free():
     return min(found)
 
 
-def count():
+def count() -> int:
     """Returns how many checks may run side by side."""
     processors, memory = len(os.sched_getaffinity(0)), free()
     lanes = max(1, min(processors, memory // EACH))
@@ -32,7 +32,7 @@ def count():
     return lanes
 
 
-def main():
+def main() -> None:
     lanes = count()
     print(lanes if lanes > 1 else "")
 

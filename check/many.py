@@ -15,13 +15,17 @@ no other.
 It prints how many associations and whole messages there were, and each fault; the status is 1 if there is one.
 """
 
+from __future__ import annotations
+
 import contextlib
 import os
 import random
 import re
+import socket
 import sys
 import threading
 import time
+from typing import IO, Optional
 
 sys.path.insert(0, os.path.join(os.path.dirname(os.path.dirname(os.path.abspath(__file__))), "check/lib"))
 import dicom
@@ -61,7 +65,7 @@ STEPS = 3
 NAMES = dicom.stored() | rows.names_in(f"{HERE}/rows/courses.rows") | MORE
 
 
-def spelled(words, association=0, step=0):
+def spelled(words: str, association: int = 0, step: int = 0) -> bytes:
     """Returns the bytes of words that are about a step of an association."""
     number = STEPS * association + step
     return dicom.bytes_of(NAMES, words).replace(b"1.2.3.4", b"1.2.%d.%d" % (4 + number // 10, number % 10))
@@ -70,7 +74,7 @@ def spelled(words, association=0, step=0):
 class Conversation(Speaker):
     """An association: the messages that it has to send, and the place up to which it sends them."""
 
-    def __init__(self, number, chance, is_good):
+    def __init__(self, number: int, chance: random.Random, is_good: bool) -> None:
         self.number, self.chance = number, random.Random(chance.random())
         self.messages = [spelled("PUSH_AND_PULL"), *(spelled(it[1], number, it[0]) for it in REQUESTS), spelled("RELEASE")]
         self.due = [spelled("TWO_ACCEPTED"), *(spelled(it[2], number, it[0]) for it in REQUESTS), spelled("RELEASED")]
@@ -79,7 +83,7 @@ class Conversation(Speaker):
         self.place = len(whole) if is_good else chance.randrange(len(whole))
         super().__init__(whole[:self.place], way)
 
-    def talk(self, port, barrier):
+    def talk(self, port: int, barrier: threading.Barrier) -> None:
         """Sends its bytes in pieces, and reads what is answered."""
         at = 0
         with runs.connected(port) as connection, contextlib.suppress(ConnectionError):
@@ -91,7 +95,7 @@ class Conversation(Speaker):
                 time.sleep(self.chance.random() / 500)
             self.end(connection)
 
-    def end(self, connection):
+    def end(self, connection: socket.socket) -> None:
         """Ends it in its way. Before it hangs up or resets, it hears what has come."""
         if self.way != READS_ON:
             connection.setblocking(False)
@@ -99,7 +103,7 @@ class Conversation(Speaker):
                 self.heard = connection.recv(65536)
         super().end(connection)
 
-    def whole(self):
+    def whole(self) -> int:
         """Returns how many of its messages were sent whole."""
         count, left = 0, self.place
         while count < len(self.messages) and left >= len(self.messages[count]):
@@ -107,7 +111,7 @@ class Conversation(Speaker):
             count += 1
         return count
 
-    def acknowledged(self):
+    def acknowledged(self) -> int:
         """Returns how many of its messages were answered whole."""
         count, at = 0, 0
         while count < len(self.due) and self.heard.startswith(self.due[count], at):
@@ -115,14 +119,14 @@ class Conversation(Speaker):
             count += 1
         return count
 
-    def states(self, done):
+    def states(self, done: int) -> list[bytes]:
         """Returns what an N-GET of each of its steps returns after `done` of its requests."""
         told = ["NOT_HELD"] * STEPS
         for step, _, _, then in REQUESTS[:done]:
             told[step] = then
         return [spelled(it, self.number, step) for step, it in enumerate(told)]
 
-    def fault(self, told):
+    def fault(self, told: list[bytes]) -> Optional[str]:
         """Returns what is wrong with what was answered, or with its steps in the end; None if nothing is."""
         if self.way == READS_ON and self.heard != b"".join(self.due[:self.whole()]):
             return f"{self.acknowledged()} of {self.whole()} messages are answered, and {self.heard!r}"
@@ -135,7 +139,7 @@ class Conversation(Speaker):
         return None if least <= done <= most else f"{done} requests are done, {least} were answered, and {most} said"
 
 
-def told_of(port, association):
+def told_of(port: int, association: Conversation) -> list[bytes]:
     """Returns the answers to an N-GET of each step of an association."""
     told = []
     for step in range(STEPS):
@@ -146,7 +150,7 @@ def told_of(port, association):
     return told
 
 
-def found(port, associations):
+def found(port: int, associations: list[Conversation]) -> list[Optional[tuple[int, int]]]:
     """Returns the steps that a C-FIND finds, each as the number of its association and its own; None for any other match."""
     with runs.connected(port) as connection:
         answer = runs.exchange(connection, spelled("PUSH_AND_PULL FIND KEYS RELEASE"))
@@ -156,7 +160,7 @@ def found(port, associations):
     return [steps.get(answer[at:at + size]) for at in range(0, len(answer), size)]
 
 
-def talk_at_once(port, associations):
+def talk_at_once(port: int, associations: list[Conversation]) -> None:
     """Runs all associations at the same time, and waits until they end."""
     barrier = threading.Barrier(len(associations))
     talks = [threading.Thread(target=it.talk, args=(port, barrier)) for it in associations]
@@ -166,7 +170,7 @@ def talk_at_once(port, associations):
         talk.join(runs.SECONDS)
 
 
-def is_idle(log, count):
+def is_idle(log: IO[bytes], count: int) -> bool:
     """Waits until a log says how `count` associations ended; returns False if it never does."""
     end = time.monotonic() + runs.SECONDS
     while time.monotonic() < end:
@@ -177,7 +181,7 @@ def is_idle(log, count):
     return False
 
 
-def tried(program, chance):
+def tried(program: str, chance: random.Random) -> tuple[list[Conversation], list[str]]:
     """Runs a round, and returns its associations and the faults."""
     associations = [Conversation(it, chance, it < GOOD) for it in range(ASSOCIATIONS)]
     with runs.logging(program, SEATS) as (log, server):
@@ -186,22 +190,24 @@ def tried(program, chance):
             return associations, ["the log does not tell how each association ended"]
         told = [told_of(server.port, it) for it in associations]
         matches = found(server.port, associations)
-    faults, held = [], []
+    faults: list[str] = []
+    held: list[Optional[tuple[int, int]]] = []
     for it, tale in zip(associations, told):
         if why := it.fault(tale):
             faults.append(f"association {it.number}, which {it.way} at {it.place}: {why}")
         held += [(it.number, step) for step in range(STEPS) if tale[step] != spelled("NOT_HELD", it.number, step)]
-    if None in matches or sorted(matches) != held:
+    if None in matches or sorted(filter(None, matches)) != held:
         faults.append(f"a C-FIND tells {matches}, and held are {held}")
     return associations, faults
 
 
-def main():
+def main() -> None:
     asked = described(__doc__, "?")
     asked.add_argument("--rounds", type=int, default=8, help="how many servers are tried (default: %(default)s)")
     asked.add_argument("--seed", type=int, default=1, help="where the associations are cut off (default: %(default)s)")
     given = asked.parse_args()
-    chance, faults, whole, count = random.Random(given.seed), [], 0, 0
+    chance, whole, count = random.Random(given.seed), 0, 0
+    faults: list[str] = []
     for number in range(1, given.rounds + 1):
         associations, more = tried(os.path.abspath(given.program), chance)
         whole += sum(it.whole() == len(it.messages) for it in associations)

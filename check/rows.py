@@ -74,10 +74,15 @@ writes in NAME.stdout.
 The last line is `N passed, M failed`, counting scripts, examples and other rows. The status is 1 if one failed.
 """
 
+from __future__ import annotations
+
 import copy
 import os
 import re
 import sys
+from collections.abc import Iterable, Iterator, Mapping, Sequence
+from subprocess import TimeoutExpired
+from typing import Optional, Protocol, Union
 
 sys.path.insert(0, os.path.join(os.path.dirname(os.path.dirname(os.path.abspath(__file__))), "check/lib"))
 import courses
@@ -109,25 +114,39 @@ FAULTS = {
 }
 
 
-def spelled(line):
+class Runnable(Protocol):
+    """What is run: it has a name, says by which program, and tells how that differs from what is expected."""
+
+    name: str
+
+    @property
+    def program(self) -> str: ...
+
+    def difference(self, program: str) -> Optional[str]: ...
+
+    def spoiled(self) -> Sequence[Runnable]: ...
+
+
+def spelled(line: str) -> str:
     """Returns a line of a script with its words replaced by what they stand for."""
     words = " ".join(WORDS.get(it, it) for it in line.split(" "))
     return re.sub(r"=x\*(\d+)", lambda it: "=" + "x" * int(it[1]), words).replace("\\r", "\r")
 
 
-def repeated(text, times):
+def repeated(text: str, times: int) -> str:
     """Returns a text that many times, with the number of the repetition in place of a `#`."""
     return "".join(text.replace("#", str(number)) for number in range(1, times + 1))
 
 
-def unfolded(text):
+def unfolded(text: str) -> str:
     """Returns a text in which each part of the form `{N: text}` is repeated N times."""
     return re.sub(r"\{(\d+): ([^{}]*)\}", lambda it: repeated(it[2], int(it[1])), text)
 
 
-def apart(what, found, expected):
+def apart(what: str, found: Union[str, bytes], expected: Union[str, bytes]) -> str:
     """Describes where what was found differs from what was expected."""
-    at = len(os.path.commonprefix([found, expected]))
+    pairs = enumerate(zip(found, expected))
+    at = next((place for place, (one, other) in pairs if one != other), min(len(found), len(expected)))
     return f"{what} is {found[at:at + 20]!r} and not {expected[at:at + 20]!r} from byte {at} on"
 
 
@@ -136,7 +155,7 @@ class Script:
 
     program = "upsd"
 
-    def __init__(self, heading, rows):
+    def __init__(self, heading: str, rows: Iterable[str]) -> None:
         self.name, self.script, self.replies, self.said = heading, "", "", ""
         for row in rows:
             self.add(row)
@@ -145,7 +164,7 @@ class Script:
         offset = re.search(r"\(offset (-?\d+)\)", heading)
         self.words = ["script", *([f"--offset={offset[1]}"] if offset else []), *(PEERS if "(peers)" in heading else [])]
 
-    def add(self, row):
+    def add(self, row: str) -> None:
         """Adds a row, as often as it says."""
         if row.startswith("! "):
             self.said += f"upsd: {row[2:]}\n"
@@ -156,7 +175,7 @@ class Script:
         self.script += unfolded(repeated(line, int(times)) if times else line)
         self.replies += reply * int(times or 1) if arrow else ""
 
-    def spoiled(self):
+    def spoiled(self) -> list[Script]:
         """Returns the same with another last reply; or, if there is none, with something else on standard error."""
         other = copy.copy(self)
         if self.replies:
@@ -165,13 +184,13 @@ class Script:
             other.said = "X\n"
         return [other]
 
-    def run(self, words, script):
+    def run(self, words: Sequence[str], script: bytes) -> runs.Ran:
         """Runs the program on the script, at once or line by line."""
         if self.name.endswith("(as it is typed)"):
             return runs.run_typed(words, script.splitlines(keepends=True))
         return runs.run(words, script)
 
-    def difference(self, program):
+    def difference(self, program: str) -> Optional[str]:
         """Returns how the program differs from the script; None if it doesn't."""
         ran = self.run([program, *self.words], self.script.encode())
         found, said = ran.output.decode(errors="replace"), ran.said.decode(errors="replace")
@@ -191,36 +210,43 @@ class Row:
 
     program = "upsd"
 
-    def __init__(self, row, short):
+    def __init__(self, row: str, short: Sequence[str]) -> None:
         self.name, (self.what, *numbers) = row, short
         self.first, self.last = (int(numbers[0]), int(numbers[-1])) if numbers else (0, 0)
         if self.what not in SHORT or self.last < self.first:
             raise ValueError(row)
 
-    def difference(self, program):
+    def difference(self, program: str) -> Optional[str]:
         """Returns how the program differs from the row, at the first number for which it does; None if there is none."""
         for number in range(self.first, self.last + 1):
             if why := self.difference_at(program, number):
                 return f"at {number}: {why}" if self.what else why
         return None
 
-    def run(self, words, given, number):
+    def difference_at(self, program: str, number: int) -> Optional[str]:
+        """Returns how the program differs from the row at a number; None if it doesn't."""
+        raise NotImplementedError
+
+    def spoiled(self) -> Sequence[Row]:
+        raise NotImplementedError
+
+    def run(self, words: Sequence[runs.Word], given: bytes, number: int) -> runs.Ran:
         """Runs a program on what it is given, with what is short at a number."""
         if self.what == "shaky":
             return runs.run_shaken(words, given)
         if self.what in ("break", "left"):
             with (runs.broken if self.what == "break" else runs.lasting)(self.cut(given, number)) as source:
                 return runs.run(words, source=source)
-        limits = {self.what: number} if self.what in ("room", "memory") else {}
-        return runs.run(words, self.cut(given, number), **limits)
+        room, memory = (number if self.what == it else None for it in ("room", "memory"))
+        return runs.run(words, self.cut(given, number), room=room, memory=memory)
 
-    def cut(self, given, number):
+    def cut(self, given: bytes, number: int) -> bytes:
         """Returns what is given, as far as it goes."""
         if self.what == "left":
             return given[:-number]
         return given[:number] if self.what in ("end", "break") else given
 
-    def written(self, output, number):
+    def written(self, output: bytes, number: int) -> bytes:
         """Returns what is written of an output, as far as there is room."""
         return output[:number] if self.what == "room" else output
 
@@ -228,7 +254,7 @@ class Row:
 class Session(Row):
     """An association: what is asked and answered, and how it ends."""
 
-    def __init__(self, names, row):
+    def __init__(self, names: Mapping[str, str], row: str) -> None:
         form, asked, answered, self.ended = row.split(" | ")
         form, *short = form.split(" ")
         super().__init__(row, ["shaky"] if form == "shaky" else short or [""])
@@ -240,14 +266,13 @@ class Session(Row):
         if form == "capitals":
             self.asked = self.asked.upper()
 
-    def spoiled(self):
+    def spoiled(self) -> list[Session]:
         """Returns the same with another answer, and with another end."""
         answer, end = copy.copy(self), copy.copy(self)
         answer.answered, end.ended = b"X" + self.answered, self.ended + "X"
         return [answer, end]
 
-    def difference_at(self, program, number):
-        """Returns how the program differs from the row at a number; None if it doesn't."""
+    def difference_at(self, program: str, number: int) -> Optional[str]:
         words = [program, "pipe", "--ae", "UPSD", *(["--hex"] if self.is_hexadecimal else [])]
         ran, answered = self.run(words, self.asked, number), self.written(self.answered, number)
         if ran.output != answered:
@@ -260,12 +285,12 @@ class Session(Row):
             ended = f"Ok({end})"
         return None if ended == self.ended else f"it ends as {ended}"
 
-    def plain(self, text):
+    def plain(self, text: bytes) -> bytes:
         """Returns the bytes of what is asked or answered."""
         return bytes.fromhex(text.decode()) if self.is_hexadecimal else text
 
 
-def ended_of(ran):
+def ended_of(ran: runs.Ran) -> str:
     """Returns how a session ended, by what the program says and its exit status: well, or with a fault."""
     said = ran.said.decode(errors="replace")
     if ran.status == 0 and not said:
@@ -277,15 +302,16 @@ def ended_of(ran):
 class Command(Row):
     """A command line, what is read, and the outcome."""
 
-    def __init__(self, names, row):
+    def __init__(self, names: Mapping[str, str], row: str) -> None:
         words, given, self.output, self.said, status = row.split(" | ")
-        short, words = re.fullmatch(r"(?:\((.+?)\) )?(.*)", words).groups()
+        if found := re.match(r"\((.+?)\) ", words):
+            words = words[found.end():]
         is_lacking = words == "no memory"
-        super().__init__(row, ["memory", MEMORY] if is_lacking else (short or "").split(" "))
-        self.words = NO_MEMORY if is_lacking else [it for word in words.split(" ") for it in often(word)]
+        super().__init__(row, ["memory", str(MEMORY)] if is_lacking else (found[1] if found else "").split(" "))
+        self.words: list[runs.Word] = [*NO_MEMORY] if is_lacking else [it for word in words.split(" ") for it in often(word)]
         self.names, self.given, self.status = names, dicom.bytes_of(names, given), int(status)
 
-    def spoiled(self):
+    def spoiled(self) -> list[Command]:
         """Returns the same with another output, with something else on standard error, and with another status."""
         output, said, status = copy.copy(self), copy.copy(self), copy.copy(self)
         output.output, said.said, status.status = f'{self.output}"X"', f'{self.said}"X"', self.status + 1
@@ -293,14 +319,13 @@ class Command(Row):
             output.output = f'"X"{self.output}'
         return [output, said, status]
 
-    def difference_at(self, program, number):
-        """Returns how the program differs from the row at a number; None if it doesn't."""
+    def difference_at(self, program: str, number: int) -> Optional[str]:
         ran = self.run([program, *self.words], self.given, number)
         if why := self.unlike("the output", ran.output, self.output, number) or self.unlike("what it says", ran.said, self.said):
             return why
         return None if ran.status == self.status else f"it ends with status {ran.status}"
 
-    def unlike(self, what, found, column, room=None):
+    def unlike(self, what: str, found: bytes, column: str, room: Optional[int] = None) -> Optional[str]:
         """Returns how what is written differs from a column, as far as there is room; None if it doesn't."""
         if column.startswith(".."):
             return None if column[2:].encode() in found else f"{what} is {found!r}"
@@ -309,7 +334,7 @@ class Command(Row):
         return None if found == expected else apart(what, found, expected)
 
 
-def often(word):
+def often(word: str) -> list[bytes]:
     """Returns a word of a command line with its escapes replaced, as often as it says."""
     found = re.fullmatch(r"(.*)\*(\d+)", word)
     words = dicom.numbered(found[1], int(found[2])) if found else [word]
@@ -321,18 +346,18 @@ class Delivery:
 
     program = "upsd"
 
-    def __init__(self, names, row):
+    def __init__(self, names: Mapping[str, str], row: str) -> None:
         words, self.host, *said, self.ended = row.split(" | ")
         self.name, self.peers = row, words.split(" ")
         self.asked, self.taken, self.heard = (dicom.bytes_of(names, it) for it in said)
 
-    def spoiled(self):
+    def spoiled(self) -> list[Delivery]:
         """Returns the same with something else that is heard, and with another end."""
         heard, end = copy.copy(self), copy.copy(self)
         heard.heard, end.ended = b"X" + self.heard, self.ended + "X"
         return [heard, end]
 
-    def difference(self, program):
+    def difference(self, program: str) -> Optional[str]:
         """Returns how the server differs from the row; None if it doesn't."""
         heard, ended = runs.deliver(program, self.peers, self.host, self.asked, self.taken)
         if heard != self.heard:
@@ -345,24 +370,24 @@ class Reading(Row):
 
     program = "readings"
 
-    def __init__(self, names, row):
+    def __init__(self, names: Mapping[str, str], row: str) -> None:
         kind, given, told, *written = row.split(" | ")
         self.kind, _, numbers = kind.partition(" end ")
         super().__init__(row, ["end", *numbers.split(" ")] if numbers else [""])
         self.given = dicom.bytes_of(names, given)
         self.told = re.sub(r"<(.*?)>", lambda it: f"<{dicom.bytes_of(names, it[1]).hex()}>", told)
-        self.written = written_for(names, self.given, "".join(written))
+        self.due = written_for(names, self.given, "".join(written))
 
-    def spoiled(self):
+    def spoiled(self) -> list[Reading]:
         """Returns the same with another description; and, unless any bytes may be written, with other bytes."""
         told, written = copy.copy(self), copy.copy(self)
         told.told = f"{self.told}X"
-        if self.written is None:
+        if self.due is None:
             return [told]
-        written.written = b"X" + self.written
+        written.due = b"X" + self.due
         return [told, written]
 
-    def difference_at(self, program, number):
+    def difference_at(self, program: str, number: int) -> Optional[str]:
         """Returns how the program's output differs from the row at a number; None if it doesn't."""
         ran = runs.run([program], f"{self.kind} {self.cut(self.given, number).hex()}\n".encode())
         if ran.status or ran.said:
@@ -373,33 +398,35 @@ class Reading(Row):
                 return f"it is told to be {told!r}"
         elif told.rstrip(" ") != self.told:
             return apart("what it is told to be", told, self.told)
-        if self.written is None or digits == self.written.hex():
+        if self.due is None or digits == self.due.hex():
             return None
-        return apart("what is written", digits, self.written.hex())
+        return apart("what is written", digits, self.due.hex())
 
 
-def written_for(names, given, column):
+def written_for(names: Mapping[str, str], given: bytes, column: str) -> Optional[bytes]:
     """Returns the bytes that are written for what is given, by a column; None if they may be any."""
     if column == "=":
         return given
     return None if column == ".." else dicom.bytes_of(names, column)
 
 
-KINDS = {"sessions": Session, "commands": Command, "deliveries": Delivery, "readings": Reading}
+KINDS: dict[str, type[Union[Session, Command, Delivery, Reading]]] = {
+    "sessions": Session, "commands": Command, "deliveries": Delivery, "readings": Reading}
 
 
-def rows_of(file):
+def rows_of(file: str) -> Iterator[Runnable]:
     """Yields what is to be run of a file: its scripts, or its rows."""
     kind, *sections = re.split(r"(?m)^# ", content(file))
     kind = kind.removesuffix("\n")
     if kind not in ("", "courses", "services", *KINDS) or not sections:
         sys.exit(f"{file}: no section at its beginning")
-    names, befores = dicom.stored() if kind else {}, {}
+    names = dicom.stored() if kind else {}
+    befores: dict[str, list[str]] = {}
     for section in sections:
         heading, *rows = section.removesuffix("\n").split("\n")
         what, _, name = heading.partition(": ")
         if kind and what == "names":
-            names.update(row.split(": ", 1) for row in rows)
+            names.update(names_of(rows))
         elif kind and heading.startswith("names of "):
             names.update(names_in(os.path.join(os.path.dirname(file), heading.removeprefix("names of "))))
         elif kind == "services" and what == "before":
@@ -408,7 +435,7 @@ def rows_of(file):
             yield from rows_of_section(kind, heading, rows, names, befores)
 
 
-def rows_of_section(kind, heading, rows, names, befores):
+def rows_of_section(kind: str, heading: str, rows: list[str], names: Mapping[str, str], befores: services.Befores) -> Iterator[Runnable]:
     """Yields what is to be run of a section."""
     if not kind:
         yield Script(heading, rows)
@@ -420,13 +447,18 @@ def rows_of_section(kind, heading, rows, names, befores):
         yield from (KINDS[kind](names, row) for row in rows)
 
 
-def names_in(file):
+def names_of(rows: Iterable[str]) -> dict[str, str]:
+    """Returns the texts of names, a row for each."""
+    return {name: text for name, _, text in (row.partition(": ") for row in rows)}
+
+
+def names_in(file: str) -> dict[str, str]:
     """Returns the texts of the names that a file of rows defines."""
     sections = re.findall(r"(?m)^# names: .*\n((?:[^#].*\n)*)", content(file))
-    return dict(row.split(": ", 1) for section in sections for row in section.splitlines())
+    return names_of(row for section in sections for row in section.splitlines())
 
 
-def examples_of(folder):
+def examples_of(folder: str) -> Iterator[Script]:
     """Yields the examples of a folder."""
     for name in sorted(os.listdir(folder)):
         if name.endswith(".args"):
@@ -437,23 +469,23 @@ def examples_of(folder):
             yield script
 
 
-def content(file):
+def content(file: str) -> str:
     """Returns the text of a file."""
     with open(file, encoding="utf-8", newline="\n") as text:
         return text.read()
 
 
-def fault_of(program, row, is_spoiled):
+def fault_of(program: str, row: Runnable, is_spoiled: bool) -> Optional[str]:
     """Returns why a row fails; None if it passes."""
     try:
         if not is_spoiled:
             return row.difference(program)
         return None if all(it.difference(program) for it in row.spoiled()) else "a wrong row is not found"
-    except (runs.TimeoutExpired, OSError, ValueError) as fault:
+    except (TimeoutExpired, OSError, ValueError) as fault:
         return f"{type(fault).__name__}: {fault}"
 
 
-def main():
+def main() -> None:
     asked = described(__doc__)
     asked.add_argument("files", nargs="+", metavar="FILE", help="a file of rows, or a folder of examples")
     asked.add_argument("--program", default="crates/upsd/out/upsd", help="the program (default: %(default)s)")

@@ -48,7 +48,7 @@ from results import Results
 from stored import FAULTS
 
 
-def options_of(trials: argparse._SubParsersAction, name: str, perform: object, *numbers: tuple[str, int, str], positional: bool = False,
+def options_of(trials: argparse._SubParsersAction[argparse.ArgumentParser], name: str, perform: object, *numbers: tuple[str, int, str], positional: bool = False,
                flags: tuple[tuple[str, str], ...] = ()) -> None:
     """Adds a trial with its numbers, the first of which may be given without a name, and its flags."""
     it = trials.add_parser(name)

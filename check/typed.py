@@ -1,8 +1,8 @@
 #!/usr/bin/env python3
-"""Checks the types of check/lib and of the client with mypy, as mypy.ini says: each function there has them.
+"""Checks the types of check, of what trials share, of packaging and of the client with mypy, as mypy.ini says: each function there has them.
 
-    check/typed.py [FILE..]     from the top of the checkout (default: check/lib and client/ups)
-    check/typed.py --self-test  spoils a type in a copy of each, and checks that this is found
+    check/typed.py [FILE..]     from the top of the checkout (default: all of these)
+    check/typed.py --self-test  spoils some types in a copy, and checks that this is found
 
 If mypy is missing, it is installed from the Debian package `mypy`. If that fails, it says so in a line, and nothing is checked. The
 status is 1 if a type is wrong.
@@ -18,9 +18,12 @@ import sys
 import tempfile
 
 HERE = os.path.dirname(os.path.dirname(os.path.abspath(__file__)))
-CHECKED = ["check/lib", "client/ups"]
+CHECKED = ["check", "trials/lib", "packaging", "client/ups"]
 SECONDS = 180  # in which mypy has to be installed
 SPOILED = (("check/lib/dicom.py", "def us(number: int) -> bytes:", "def us(number: int) -> str:"),
+           ("check/rows.py", "def spelled(line: str) -> str:", "def spelled(line: str) -> bytes:"),
+           ("trials/lib/modality.py", "def spelled(explicit: bool, rows: list[Row]) -> bytes:", "def spelled(explicit: bool, rows: list[Row]) -> str:"),
+           ("packaging/pages.py", "def quoted(text: str) -> str:", "def quoted(text: str) -> bytes:"),
            ("client/ups/moments.py", "def moment_now() -> str:", "def moment_now() -> bytes:"))
 
 
@@ -49,7 +52,7 @@ def self_test() -> int:
     with tempfile.TemporaryDirectory() as folder:
         shutil.copy(os.path.join(HERE, "mypy.ini"), folder)
         for checked in CHECKED:
-            shutil.copytree(os.path.join(HERE, checked), os.path.join(folder, checked))
+            shutil.copytree(os.path.join(HERE, checked), os.path.join(folder, checked), ignore=shutil.ignore_patterns("out"))
         for name, old, new in SPOILED:
             spoil(os.path.join(folder, name), old, new)
         said = check(CHECKED, folder).stdout

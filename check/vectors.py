@@ -150,13 +150,13 @@ def self_test(program: str, vectors: Vectors) -> None:
         for wrong in ((pdus, told + 1), (longer, told), (longer, told + 1), (header, told)):
             counts.tell(text, None if fault_of_lengths(*wrong) else "a wrong length is not found")
     for name, ran, expected in runs_of(program, vectors):
-        for wrong in spoiled(expected):
-            counts.tell(name, None if fault_of(ran, wrong) else "a wrong answer is not found")
-        for change in ({"status": 2}, {"said": b"X"}, {"output": ran.output[:-1]}, {"output": ran.output + b"0"}, {"output": b""}):
-            wrong_end = fault_of(dataclasses.replace(ran, **change), expected)
-            counts.tell(name, None if wrong_end else "a wrong end is not found")
-    for wrong in ("ABSENT", "0", "zz", '"'):
-        counts.tell(wrong, None if is_refused(wrong) else "words that spell no bytes are not found")
+        for lines in spoiled(expected):
+            counts.tell(name, None if fault_of(ran, lines) else "a wrong answer is not found")
+        ends = [runs.Ran(2, ran.output, ran.said), runs.Ran(ran.status, ran.output, b"X")]
+        for ended in [*ends, *(runs.Ran(ran.status, it, ran.said) for it in (ran.output[:-1], ran.output + b"0", b""))]:
+            counts.tell(name, None if fault_of(ended, expected) else "a wrong end is not found")
+    for word in ("ABSENT", "0", "zz", '"'):
+        counts.tell(word, None if is_refused(word) else "words that spell no bytes are not found")
     counts.end()
 
 

@@ -18,7 +18,7 @@ import threading
 import time
 from collections.abc import Iterable, Iterator, Sequence
 from subprocess import TimeoutExpired
-from typing import IO, Any, Optional
+from typing import IO, Any, Optional, Union
 
 from server import Server
 
@@ -26,6 +26,7 @@ SECONDS = 30  # for one run
 ACTIONS = "Change", "Cancel", "Subscribe", "Unsubscribe", "Suspend"  # how a line of the log names an N-ACTION that was refused
 LIMIT = struct.pack("ll", SECONDS, 0)
 PAUSE = 0.0001
+Word = Union[str, bytes]  # of a command line
 
 
 @dataclasses.dataclass
@@ -37,7 +38,7 @@ class Ran:
     said: bytes
 
 
-def run(words: Sequence[str], given: bytes = b"", *, source: Optional[socket.socket] = None, room: Optional[int] = None,
+def run(words: Sequence[Word], given: bytes = b"", *, source: Optional[socket.socket] = None, room: Optional[int] = None,
         memory: Optional[int] = None) -> Ran:
     """Runs a program on an input: the bytes `given`, or those of a source. If these are given, its output has room for `room`
     bytes, and its data for `memory` kilobytes."""
@@ -51,7 +52,7 @@ def run(words: Sequence[str], given: bytes = b"", *, source: Optional[socket.soc
         return Ran(ran.returncode, output.read(), ran.stderr)
 
 
-def run_typed(words: Sequence[str], lines: Iterable[bytes]) -> Ran:
+def run_typed(words: Sequence[Word], lines: Iterable[bytes]) -> Ran:
     """Runs a program that is given each line after the reply to the one before has come."""
     with subprocess.Popen(words, stdin=subprocess.PIPE, stdout=subprocess.PIPE, stderr=subprocess.PIPE) as child:
         guard = threading.Timer(SECONDS, child.kill)
@@ -99,7 +100,7 @@ def lasting(given: bytes) -> Iterator[socket.socket]:
         yield source
 
 
-def run_shaken(words: Sequence[str], given: bytes) -> Ran:
+def run_shaken(words: Sequence[Word], given: bytes) -> Ran:
     """Runs a program that gets its input byte by byte, and room for its output byte by byte. A signal interrupts each call
     that waits for either."""
     source, giver = timed_pair(socket.SO_RCVTIMEO)

@@ -10,10 +10,11 @@ import sys
 import threading
 import time
 from collections.abc import Mapping
-from typing import IO, Callable, Optional, Union
+from typing import IO, Callable, Optional, TypeVar, Union
 
 UNIT = os.path.join(os.path.dirname(os.path.abspath(__file__)), "../../packaging/upsd.service")
 Sink = Union[int, IO[bytes]]  # where standard error goes
+S = TypeVar("S", bound="Server")
 
 
 def as_service(program: str) -> list[str]:
@@ -76,7 +77,7 @@ class Server:
             self.process.wait()
         self.output.close()
 
-    def __enter__(self) -> Server:
+    def __enter__(self: S) -> S:
         return self
 
     def __exit__(self, *_: object) -> None:
