@@ -33,6 +33,7 @@ def trial(words: str, *marks: pytest.MarkDecorator, name: Optional[str] = None, 
 CHECKS = [
     trial("check/names.py"), trial("check/names.py --self-test", name="names_themselves"),
     trial("check/rooms.py"), trial("check/rooms.py --self-test", name="rooms_themselves"),
+    trial("check/sizes.py"), trial("check/sizes.py --self-test", name="sizes_themselves"),
     trial("check/facts.py"), trial("check/facts.py --self-test", name="facts_themselves"),
     trial("check/typed.py", needs="mypy"), trial("check/typed.py --self-test", name="typed_themselves", needs="mypy"),
     trial("check/rows.py {rows} --program {upsd} --readings {readings} --refusals {refusals}"),
