@@ -33,6 +33,8 @@ HEARD = 0.2  # the share of a day's requests during which the watchers listen
 QUIET = 3.0  # seconds without a report after which none is on its way
 AT_ONCE = ("--compact-at", "1")  # each compaction begins as soon as the one before is done
 OPERATION = 3  # a column of a row
+ASKERS, BESIDE, OFTEN = 16, 20.0, 4  # stations that ask without a pause, for how many seconds, and how many compactions end meanwhile
+SINCE = 1000  # how many requests make a compaction due beside them
 BATCH, SETS = 10, 7  # lives that are asked at once, and N-SETs of each
 GROWTH, FEW = 1.25, 64 * 2**20  # how much more memory a server with a store may take: a factor, and bytes
 
@@ -263,6 +265,44 @@ def check_good(picture: Picture, results: Results) -> None:
     results.tell("the day is answered as it is due", None if good and min(counts.values()) > 0 else f"{counts}: {picture.answers}"[:600])
 
 
+def ask_on(port: int, me: int, over: threading.Event, day: Day) -> None:
+    """Takes steps from their creation to their end, one request after the other without a pause, until it is told to end."""
+    try:
+        client, number = Client(port, b"ASKER%d" % me), 0
+        while not over.is_set():
+            number += 1
+            uid, transaction = b"1.2.%d.%d" % (100 + me, number), b"2.25.%d%06d" % (100 + me, number)
+            statuses = [client.create(uid, a_step_of(b"PATIENT1")), client.change(uid, b"IN PROGRESS", transaction),
+                        client.set(uid, performed(1), transaction), client.change(uid, b"COMPLETED", transaction)]
+            if any(statuses):
+                failed(uid, statuses)
+            day.uids.append(uid)
+        client.release()
+    except FAULTS as fault:
+        day.faults.append(repr(fault))
+
+
+def beside_askers(program: list[str], file: str, results: Results) -> None:
+    """Has a server compact its store while stations ask all the time. Each compaction ends while they do, and none loses a UID."""
+    day, over = Day(), threading.Event()
+    with Stored(program, file, "--keep", str(KEEP), "--compact-at", str(SINCE), "--associations", str(2 * ASKERS)) as server:
+        askers = [threading.Thread(target=ask_on, args=(server.port, it, over, day), daemon=True) for it in range(ASKERS)]
+        for it in askers:
+            it.start()
+        time.sleep(BESIDE)
+        done = server.lines("store: compacted from")
+        over.set()
+        for it in askers:
+            it.join()
+    told = f"{len(done)} compactions end beside {ASKERS} stations that finish {len(day.uids)} steps without a pause"
+    results.tell(told, day.faults[0] if day.faults else None if len(done) >= OFTEN else f"there are fewer than {OFTEN}")
+    with Stored(program, file, "--keep", str(KEEP)) as server:
+        client = Client(server.port)
+        anew = {client.create(uid, a_step_of(b"PATIENT1")) for uid in day.uids[:: max(1, len(day.uids) // 500)]}
+        client.release()
+    results.tell("a start behind them has their UIDs", None if anew == {0x0111} else f"a creation with one is answered {sorted(anew)}")
+
+
 def run_compact(program: list[str], given: argparse.Namespace, results: Results) -> None:
     with folder_for(given.folder) as folder:
         file = os.path.join(folder, "day")
@@ -274,6 +314,7 @@ def run_compact(program: list[str], given: argparse.Namespace, results: Results)
         by_command(program, file, folder, day, rows, plain, results)
         cut_off(program, file, folder, given, rows, results)
         at_a_start(program, copy_of(file, folder, "filled"), folder, day, len(rows), results)
+        beside_askers(program, os.path.join(folder, "asked"), results)
 
 
 def by_command(program: list[str], file: str, folder: str, day: Day, rows: list[Row], plain: Picture, results: Results) -> None:

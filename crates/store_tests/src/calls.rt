@@ -45,8 +45,8 @@ enum Work {
     Compacting,
 }
 
-/// How many slices a compaction has at most.
-const SLICES: u32 = 12;
+/// How many slices a compaction has at most, with those that empty the table of the one before.
+const SLICES: u32 = 16;
 
 /// What a course does, and which calls fail in it: one, and those from a later one on.
 #[derive(Clone, Copy)]

@@ -1,11 +1,12 @@
 -- The drafts take the place of the records.
 use Rattle.std.proofs.Props.{props}
-use Rattle.std.proofs.Common.{◌≡◌, ◌⊎◌, ℕ, ◌<◌, List, length, take, drop, refl, sym, subst, ◌∙◌, inl, inr}
+use Rattle.std.proofs.Common.{◌≡◌, ◌⊎◌, ℕ, ◌≤◌, List, length, take, drop, sym, subst, ◌∙◌, inl, inr}
 use Rattle.std.specs.Prelude.{Result, Ok, Err}
 use Rattle.std.specs.Global.{Global}
 use Rattle.ups_life.specs.Settings.{Settings}
 use Rattle.ups_journal.specs.declared.record.Record.{Record}
 use Rattle.ups_compact.specs.Shifts.{less_by}
+use Rattle.ups_compact.specs.declared.shifts.Shift.{Shift}
 use Rattle.ups_ledger.specs.declared.fault.LedgerFault.{LedgerFault}
 use Rattle.ups_lasting.specs.declared.draft_ledger.DraftLedger.{Ghosts}
 use Rattle.ups_lasting.specs.declared.stage.Follow.{Follow}
@@ -18,50 +19,60 @@ use Rattle.ups_lasting.specs.Stages.{StandsBy, IsFollowed}
 use Rattle.ups_lasting.specs.Standing.{firsts}
 use mathlib.Core.Logic.{∥∥₁_elim, ∥∥₁_map}
 use Rattle.ups_lasting.specs.Tending.{IsAgreed, StandsBySome}
-use Rattle.ups_lasting.proofs.Followed.{follows_all, all_read}
+use Rattle.ups_lasting.proofs.Followed.{follows_all}
 use Rattle.ups_lasting.proofs.Slices.{stays_then}
 
-module _ {L : Type 0} (g : Ghosts L) (a m b : L) (f : Follow) (v : List (Record Global)) (most : ℕ) (some : 0 < most) where
-  stands_if : (rs : List (Record Global)) → v ≡ take most (drop f.read (g.kept a)) → length v ≡ 0 → rs ≡ g.drafts a → StandsIf g a f rs
-  stands_if rs read none is = λ s i was.
-      subst (λ (x : List (Record Global)). StandsBy s (g.kept a) x (less_by f.shifts)) (sym (is ∙ was))
-      (follows_all s (g.kept a) (firsts f.drafts.items) (less_by f.shifts) f.from f.read (all_read (g.kept a) v f.read most some read none) i)
+module _ {L : Type 0} (g : Ghosts L) (a m b : L) (f h : Follow) where
+  -- the drafts stand for the records, once nothing is left to draft
+  stands_all : Drafts g a m f h → h.shifts ≡ f.shifts → g.is_sound m → length (g.kept a) ≤ h.read → StandsIf g a f (firsts h.drafts.items)
+  stands_all d same k all = λ s i was.
+      subst (λ (e : List Shift). StandsBy s (g.kept a) (firsts h.drafts.items) (less_by e)) same
+      (follows_all s (g.kept a) (firsts h.drafts.items) (less_by h.shifts) h.from h.read all (d.followed k s i))
 
-  pub may_have_exchanged : Stays g a m → (g.is_sound m → g.drafts m ≡ g.drafts a) → (g.is_sound m → v ≡ take most (drop f.read (g.kept a))) → length v ≡ 0 → MayTakePlace g m b → MayHaveExchanged g a b f
-  may_have_exchanged st drafts read none may = record {
+  stands_if : (rs : List (Record Global)) → Drafts g a m f h → h.shifts ≡ f.shifts → g.is_sound m → length (g.kept a) ≤ h.read → rs ≡ g.drafts m → StandsIf g a f rs
+  stands_if rs d same k all is = λ s i was.
+      subst (λ (x : List (Record Global)). StandsBy s (g.kept a) x (less_by f.shifts)) (sym (is ∙ d.put k was)) (stands_all d same k all s i was)
+
+  pub may_have_exchanged : Drafts g a m f h → h.shifts ≡ f.shifts → (g.is_sound m → length (g.kept a) ≤ h.read) → MayTakePlace g m b → MayHaveExchanged g a b f
+  may_have_exchanged d same all may = record {
     unsound = may.unsound;
-    first = λ k. st.first (may.first k);
+    first = λ k. d.stays.first (may.first k);
     crash = λ k rs can. elim (may.crash k rs can) [
-      | inl before ↦ elim (st.crash (may.first k) rs before) [ inl x ↦ inl x | inr both ↦ inr (both.0, inl both.1) ]
-      | inr both ↦ inr (st.sound both.0, inr (stands_if rs (read both.0) none (both.1 ∙ drafts both.0)))
+      | inl before ↦ elim (d.stays.crash (may.first k) rs before) [ inl x ↦ inl x | inr both ↦ inr (both.0, inl both.1) ]
+      | inr both ↦ inr (d.stays.sound both.0, inr (stands_if rs d same both.0 (all both.0) both.1))
     ];
   }
 
-  pub exchanged : Stays g a m → (g.is_sound m → g.drafts m ≡ g.drafts a) → (g.is_sound m → v ≡ take most (drop f.read (g.kept a))) → length v ≡ 0 → TakesPlace g m b → HasExchanged g a b f f
-  exchanged st drafts read none takes = record {
-    kept = λ k was. takes.put k ∙ (drafts (takes.sound k) ∙ was);
-    stands = λ k s i was. follows_all s (g.kept a) (firsts f.drafts.items) (less_by f.shifts) f.from f.read (all_read (g.kept a) v f.read most some (read (takes.sound k)) none) i;
-    shifts = refl;
-    sound = λ k. st.sound (takes.sound k);
-    first = λ k. st.first (takes.first k);
+  pub exchanged : Drafts g a m f h → h.shifts ≡ f.shifts → (g.is_sound m → length (g.kept a) ≤ h.read) → TakesPlace g m b → HasExchanged g a b f h
+  exchanged d same all takes = record {
+    kept = λ k was. takes.put k ∙ d.put (takes.sound k) was;
+    stands = λ k. stands_all d same (takes.sound k) (all (takes.sound k));
+    shifts = same;
+    sound = λ k. d.stays.sound (takes.sound k);
+    first = λ k. d.stays.first (takes.first k);
     left = takes.left;
   }
 
   -- by what the exchange has come to
-  pub ends_follows : (r : Result Followed LedgerFault) → Stays g a m → (g.is_sound m → g.drafts m ≡ g.drafts a) → (g.is_sound m → v ≡ take most (drop f.read (g.kept a))) → length v ≡ 0 → EndsExchange g m b r → Follows g a b f f r
-  ends_follows (Ok Drafted) st drafts read none t = absurd t
-  ends_follows (Ok Exchanged) st drafts read none t = exchanged st drafts read none t
-  ends_follows (Ok (Doubtful fault)) st drafts read none t = may_have_exchanged st drafts read none t
-  ends_follows (Err fault) st drafts read none t = stays_then g a m b st t
+  pub ends_follows : (r : Result Followed LedgerFault) → Drafts g a m f h → h.shifts ≡ f.shifts → (g.is_sound m → length (g.kept a) ≤ h.read) → EndsExchange g m b r → Follows g a b f h r
+  ends_follows (Ok Drafted) d same all t = absurd t
+  ends_follows (Ok Exchanged) d same all t = exchanged d same all t
+  ends_follows (Ok (Doubtful fault)) d same all t = may_have_exchanged d same all t
+  ends_follows (Err fault) d same all t = stays_then g a m b d.stays t
 
-  pub drafts_more : (h : Follow) → Stays g a m → Stays g m b → (g.is_sound m → g.drafts m ≡ g.drafts a) → (g.is_sound m → v ≡ take most (drop f.read (g.kept a)))
+  -- further records are drafted
+  pub drafts_more : (v : List (Record Global)) (most : ℕ) → Stays g a m → Stays g m b → (g.is_sound m → g.drafts m ≡ g.drafts a) → (g.is_sound m → v ≡ take most (drop f.read (g.kept a)))
       → ((s : Settings) → (content : List (Record Global)) → v ≡ take most (drop f.read content) → IsFollowed s content f → IsFollowed s content h)
       → (g.is_sound b → g.drafts m ≡ firsts f.drafts.items → g.drafts b ≡ firsts h.drafts.items) → Drafts g a b f h
-  drafts_more h x y drafts read on put = record {
+  drafts_more v most x y drafts read on put = record {
     stays = stays_then g a m b x y;
     followed = λ k s i. on s (g.kept a) (read (y.sound k)) i;
     put = λ k was. put k (drafts (y.sound k) ∙ was);
   }
+
+-- there is nothing to draft
+pub drafts_none : {L : Type 0} (g : Ghosts L) (a m : L) (f : Follow) → Stays g a m → (g.is_sound m → g.drafts m ≡ g.drafts a) → Drafts g a m f f
+drafts_none g a m f st drafts = record { stays = st; followed = λ k s i. i; put = λ k was. drafts k ∙ was }
 
 -- a call that fails while the ledger is open
 pub stays_open : {L : Type 0} (g : Ghosts L) (m b : L) → ((l : L) → g.is_sound l → (rs : List (Record Global)) → g.recovers l rs → rs ≡ g.kept l) → (g.is_first b → (rs : List (Record Global)) → g.recovers b rs → g.is_sound b)

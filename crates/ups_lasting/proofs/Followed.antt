@@ -47,9 +47,9 @@ pub followed_on : (s : Settings) (content records copies drafts after : List (Re
 followed_on s content records copies drafts after less from read most n is made noted many f =
     subst (λ (m : ℕ). AreFollowed s content less from m after) (sym many) (followed_behind s content records copies drafts after less from read most is made noted f)
 
--- where nothing is read, nothing is left
-pub all_read : (content records : List (Record Global)) (read most : ℕ) → 0 < most → records ≡ take most (drop read content) → length records ≡ 0 → length content ≤ read
-all_read content records read most some is none = omega (arith, length-take most (drop read content), length-drop read content, ap length is)
+-- where fewer are read than could be, nothing is left
+pub all_read : (content records : List (Record Global)) (read most n : ℕ) → records ≡ take most (drop read content) → length records < most → n ≡ read + length records → length content ≤ n
+all_read content records read most n is few many = omega (arith, length-take most (drop read content), length-drop read content, ap length is, many)
 
 -- THE DRAFTS STAND FOR THE RECORDS, once nothing is left to draft
 pub follows_all : (s : Settings) (content drafts : List (Record Global)) (less : List ℕ → ℕ) (from read : ℕ) → length content ≤ read → AreFollowed s content less from read drafts → StandsBy s content drafts less

@@ -7,7 +7,7 @@ use Rattle.ups_life.specs.Settings.{Settings}
 use Rattle.ups_journal.specs.declared.record.Record.{Record}
 use Rattle.ups_manager.specs.View.{ManagerView}
 use Rattle.ups_lasting.specs.declared.stage.Stage.{Stage}
-use Rattle.ups_lasting.specs.declared.stage.Stage.TheVariants.{Resting, Clearing, Surveying, Sorting as Sort, Carrying, Finishing, Following}
+use Rattle.ups_lasting.specs.declared.stage.Stage.TheVariants.{Resting, Clearing, Surveying, Sorting as Sort, Carrying, Finishing, Following, Freeing}
 use Rattle.ups_lasting.specs.Stages.{AreRecordsOf, IsSurveyed, AreCarried, AreFinished, AreFollowed, GoesOnDrafted, Agrees}
 
 module _ (s : Settings) (content more : List (Record Global)) where
@@ -62,3 +62,4 @@ agrees_on s (Sort n) content more drafts a = ((surveyed_more s content more _ a.
 agrees_on s (Carrying c) content more drafts a = (carried_more s content more _ _ _ _ _ _ a.0, a.1)
 agrees_on s (Finishing f) content more drafts a = (finished_more s content more _ _ _ _ _ a.0, a.1)
 agrees_on s (Following f) content more drafts a = (followed_more s content more _ _ _ _ a.0, a.1)
+agrees_on s Freeing content more drafts a = tt

@@ -10,7 +10,7 @@ use Rattle.ups_lasting.specs.declared.draft_ledger.DraftLedger.{Ghosts}
 use Rattle.ups_lasting.specs.declared.compaction.Tended.TheVariants as tended
 use Rattle.ups_lasting.specs.declared.stage.Follow.{Follow}
 use Rattle.ups_lasting.specs.declared.stage.Stage.{Stage}
-use Rattle.ups_lasting.specs.declared.stage.Stage.TheVariants.{Resting, Following}
+use Rattle.ups_lasting.specs.declared.stage.Stage.TheVariants.{Resting, Following, Freeing}
 use Rattle.ups_lasting.specs.Exchanging.{Drafts, HasExchanged, MayHaveExchanged}
 use Rattle.ups_lasting.specs.Slices.{Stays}
 use Rattle.ups_lasting.specs.Stages.{Agrees, IsFollowed}
@@ -26,6 +26,10 @@ module _ {L : Type 0} (g : Ghosts L) (s : Settings) (old new : L) where
   pub agreed_resting : (after : Stage) → after ≡ Resting → g.is_sound new → IsAgreed s after (g.kept new) (g.drafts new)
   agreed_resting after is k = subst (λ (x : Stage). IsAgreed s x (g.kept new) (g.drafts new)) (sym is) ∣ tt ∣₁
 
+  -- what the drafts are is no longer needed
+  pub agreed_freeing : (after : Stage) → after ≡ Freeing → g.is_sound new → IsAgreed s after (g.kept new) (g.drafts new)
+  agreed_freeing after is k = subst (λ (x : Stage). IsAgreed s x (g.kept new) (g.drafts new)) (sym is) ∣ tt ∣₁
+
   -- the next stage agrees
   pub agreed_next : (before after : Stage) → Stays g old new → (g.is_sound old → IsAgreed s before (g.kept old) (g.drafts old)) → (g.is_sound new → Agrees s before (g.kept old) (g.drafts old) → Agrees s after (g.kept old) (g.drafts new))
       → g.is_sound new → IsAgreed s after (g.kept new) (g.drafts new)
@@ -37,9 +41,9 @@ module _ {L : Type 0} (g : Ghosts L) (s : Settings) (old new : L) where
     turns_drafted is d = turns_going (Following f) after d.stays (λ k. subst (λ (x : Stage). IsAgreed s x (g.kept new) (g.drafts new)) (sym is)
         (∥∥₁_map (agreed (d.stays.sound k)) (λ x. (subst (λ (rs : List (Record Global)). IsFollowed s rs h) (sym (d.stays.same k)) (d.followed k s x.0), d.put k x.1))))
 
-    pub turns_exchanged : after ≡ Resting → HasExchanged g old new f h → Turns g s old new (Following f) after (Ok (tended.Exchanged h.drafts))
+    pub turns_exchanged : after ≡ Freeing → HasExchanged g old new f h → Turns g s old new (Following f) after (Ok (tended.Exchanged h.drafts))
     turns_exchanged is x = record {
-      agrees = agreed_resting after is;
+      agrees = agreed_freeing after is;
       same = tt;
       exchanged = (f.shifts, refl, λ k. (noted_agreed g s old f _ _ (agreed (x.sound k)) (x.kept k), stands_agreed g s old f _ (agreed (x.sound k)) (x.stands k)));
       sound = x.sound;
@@ -50,9 +54,9 @@ module _ {L : Type 0} (g : Ghosts L) (s : Settings) (old new : L) where
       doubt = tt;
     }
 
-    pub turns_doubtful : (fault : LedgerFault) → after ≡ Resting → MayHaveExchanged g old new f → Turns g s old new (Following f) after (Ok (tended.Doubtful h.drafts fault))
+    pub turns_doubtful : (fault : LedgerFault) → after ≡ Freeing → MayHaveExchanged g old new f → Turns g s old new (Following f) after (Ok (tended.Doubtful h.drafts fault))
     turns_doubtful fault is m = record {
-      agrees = agreed_resting after is;
+      agrees = agreed_freeing after is;
       same = λ k. absurd (m.unsound k);
       exchanged = tt;
       sound = λ k. absurd (m.unsound k);

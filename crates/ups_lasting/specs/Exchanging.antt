@@ -1,4 +1,4 @@
--- What a slice does that drafts what was appended meanwhile, or puts the drafts in the place of the records once nothing is left
+-- What a slice does that drafts what was appended meanwhile, and puts the drafts in the place of the records once nothing is left
 -- to draft.
 use Rattle.std.specs.Prelude.{◌≡◌, ◌⊎◌, List, Result, Ok, Err}
 use Rattle.std.specs.Global.{Global}

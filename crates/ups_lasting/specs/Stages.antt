@@ -22,7 +22,7 @@ use Rattle.ups_lasting.specs.declared.stage.Carriage.{Carriage}
 use Rattle.ups_lasting.specs.declared.stage.Finish.{Finish}
 use Rattle.ups_lasting.specs.declared.stage.Follow.{Follow}
 use Rattle.ups_lasting.specs.declared.stage.Stage.{Stage}
-use Rattle.ups_lasting.specs.declared.stage.Stage.TheVariants.{Resting, Clearing, Surveying, Sorting as Sort, Carrying, Finishing, Following}
+use Rattle.ups_lasting.specs.declared.stage.Stage.TheVariants.{Resting, Clearing, Surveying, Sorting as Sort, Carrying, Finishing, Following, Freeing}
 
 -- the records are those of a legal history
 pub record AreRecordsOf (s : Settings) (records : List (Record Global)) (by : List (Entry Global)) : Type 0 where
@@ -100,6 +100,7 @@ Agrees s (Sort n) content drafts = IsSorting s content n × (drafts ≡ [])
 Agrees s (Carrying c) content drafts = IsCarried s content c × (drafts ≡ firsts c.drafts.items)
 Agrees s (Finishing f) content drafts = IsFinished s content f × (drafts ≡ firsts f.drafts.items)
 Agrees s (Following f) content drafts = IsFollowed s content f × (drafts ≡ firsts f.drafts.items)
+Agrees s Freeing content drafts = Unit {0}
 
 -- the shifts of the drafts that are about to take the place of the records
 abbrev pub coming : Stage → Option (List Shift)
@@ -110,3 +111,4 @@ coming (Sort n) = None
 coming (Carrying c) = None
 coming (Finishing f) = None
 coming (Following f) = Some f.shifts
+coming Freeing = None

@@ -29,10 +29,15 @@ use ups_restore::{Survey, carry_record, list_needed};
 /// Returns the steps of which a compaction of the records in a manager loses nothing, none of them in order.
 ///
 /// Errors: Full.
-pub(crate) fn begin_sorting(alloc: Global, whole: Manager<Global>) -> Result<Sorting, LedgerFault>
+pub(crate) fn begin_sorting<B: Disposer>(
+    alloc: Global,
+    whole: Manager<Global>,
+    disposer: &B,
+) -> Result<Sorting, LedgerFault>
     ensures sorting { IfOk result (λ n. (s : Settings) → (content : List (Record Global)) → IsSurveyed s content whole → IsSorting s content n) }
 {
     let Ok(steps) = list_needed(&whole) else {
+        disposer.dispose(Waste::Manager(whole));
         return Err(LedgerFault::Full);
     };
     Ok(Sorting {
@@ -44,13 +49,20 @@ pub(crate) fn begin_sorting(alloc: Global, whole: Manager<Global>) -> Result<Sor
 /// Puts further steps in order.
 ///
 /// Errors: Full.
-pub(crate) fn sort_on(alloc: Global, n: Sorting) -> Result<Sorting, LedgerFault>
+pub(crate) fn sort_on<B: Disposer>(
+    alloc: Global,
+    n: Sorting,
+    disposer: &B,
+) -> Result<Sorting, LedgerFault>
     ensures sorting { IfOk result (λ next. (s : Settings) → (content : List (Record Global)) → IsSorting s content n → IsSorting s content next) }
 {
     let Sorting { whole, steps } = n;
     match steps.sort_on(alloc, SORTED) {
         Ok(steps) => Ok(Sorting { whole, steps }),
-        Err(_) => Err(LedgerFault::Full),
+        Err(_) => {
+            disposer.dispose(Waste::Manager(whole));
+            Err(LedgerFault::Full)
+        }
     }
 }
 
@@ -67,8 +79,14 @@ pub(crate) fn begin_carriage<B: Disposer>(
     ensures carried { IfOk result (λ c. (s : Settings) → (content : List (Record Global)) → IsSurveyed s content whole → steps ≡ steps_needed s (past whole.history) → IsCarried s content c) }
     ensures drafts { IfOk result (λ c. firsts c.drafts.items ≡ []) }
 {
-    let fresh = emptied(alloc, &whole)?;
+    let Ok(fresh) = emptied(alloc, &whole) else {
+        disposer.dispose(Waste::Manager(whole));
+        disposer.dispose(Waste::Steps(steps));
+        return Err(LedgerFault::Full);
+    };
     let Ok(survey) = Survey::of(alloc, &whole) else {
+        disposer.dispose(Waste::Manager(whole));
+        disposer.dispose(Waste::Steps(steps));
         return Err(LedgerFault::Full);
     };
     disposer.dispose(Waste::Manager(whole));

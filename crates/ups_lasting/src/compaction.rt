@@ -12,7 +12,7 @@ ghost use Rattle.ups_lasting.specs.Tending.{UnlessExchanged, IfStaying, IfExchan
 use crate::draft_ledger::DraftLedger;
 use crate::following::{Followed, follow_on};
 use crate::moving::move_on;
-use crate::stage::{Follow, Stage};
+use crate::stage::{Follow, SLICE, Stage};
 use http_server::Log;
 use std::alloc::Global;
 use std::mem::replace;
@@ -49,6 +49,8 @@ pub enum Tended {
 pub struct Compaction {
     /// A manager without history, with the settings of all.
     empty: Manager<Global>,
+    /// The number of records that there were when it began. It surveys as many, whatever is appended meanwhile.
+    begun: u64,
     stage: Stage,
 }
 
@@ -60,6 +62,7 @@ impl Compaction {
     {
         Compaction {
             empty,
+            begun: 0,
             stage: Stage::Resting,
         }
     }
@@ -72,22 +75,23 @@ impl Compaction {
         }
     }
 
-    /// Begins a compaction if one is due and none is under way.
-    pub fn begin_if(&mut self, is_due: bool)
+    /// Begins a compaction of `records` records if one is due and none is under way.
+    pub fn begin_if(&mut self, is_due: bool, records: u64)
         ensures agrees { (content drafts : List (Record Global)) → IsAgreed self.old.empty.settings self.old.stage content drafts → IsAgreed self.new.empty.settings self.new.stage content drafts }
         ensures settings { self.new.empty.settings ≡ self.old.empty.settings }
     {
         if is_due && self.is_resting() {
+            self.begun = records;
             self.stage = Stage::Clearing;
         }
     }
 
-    /// Gives up the compaction that is under way. What is drafted is deleted as the next one begins.
+    /// Gives up the compaction that is under way. What it has drafted is deleted from the next slice on.
     pub fn give_up(&mut self)
-        ensures stage { self.new.stage ≡ Stage.Resting }
+        ensures stage { self.new.stage ≡ Stage.Freeing }
         ensures settings { self.new.empty.settings ≡ self.old.empty.settings }
     {
-        self.stage = Stage::Resting;
+        self.stage = Stage::Freeing;
     }
 
     /// Returns the sums of some shifts and of those of the drafts, if these are about to take the place of the records.
@@ -112,6 +116,21 @@ impl Compaction {
         }
     }
 
+    /// Deletes drafts that nobody needs.
+    ///
+    /// Errors: those of the ledger.
+    fn free<D: DraftLedger>(&mut self, ledger: &mut D) -> Result<Tended, LedgerFault>
+        ensures turns { Turns D.DraftLedger self.old.empty.settings ledger.old ledger.new Stage.Freeing self.new.stage result }
+        ensures settings { self.new.empty.settings ≡ self.old.empty.settings }
+    {
+        self.stage = Stage::Resting;
+        if ledger.clear(SLICE as u32)? {
+            return Ok(Tended::Resting);
+        }
+        self.give_up();
+        Ok(Tended::Going)
+    }
+
     /// Drafts what was appended meanwhile, or puts the drafts in the place of the records.
     ///
     /// Errors: those of the ledger; Full.
@@ -121,7 +140,7 @@ impl Compaction {
         ledger: &mut D,
         f: Follow,
     ) -> Result<Tended, LedgerFault>
-        requires resting { self.old.stage ≡ Stage.Resting }
+        requires freeing { self.old.stage ≡ Stage.Freeing }
         requires agrees { D.is_sound ledger.old → IsAgreed self.old.empty.settings (Stage.Following f) (D.kept ledger.old) (D.drafts ledger.old) }
         ensures turns { Turns D.DraftLedger self.old.empty.settings ledger.old ledger.new (Stage.Following f) self.new.stage result }
         ensures settings { self.new.empty.settings ≡ self.old.empty.settings }
@@ -156,10 +175,15 @@ impl Compaction {
         ensures turns { Turns D.DraftLedger self.old.empty.settings ledger.old ledger.new self.old.stage self.new.stage result }
         ensures settings { self.new.empty.settings ≡ self.old.empty.settings }
     {
-        match replace(&mut self.stage, Stage::Resting) {
-            Stage::Resting => Ok(Tended::Resting),
+        let upto = self.begun;
+        match replace(&mut self.stage, Stage::Freeing) {
+            Stage::Resting => {
+                self.stage = Stage::Resting;
+                Ok(Tended::Resting)
+            }
+            Stage::Freeing => self.free(ledger),
             Stage::Following(f) => self.follow(alloc, ledger, f),
-            stage => match move_on(alloc, ledger, &self.empty, stage, moment, disposer) {
+            stage => match move_on(alloc, ledger, &self.empty, stage, upto, moment, disposer) {
                 Ok(next) => {
                     self.stage = next;
                     Ok(Tended::Going)
@@ -170,14 +194,16 @@ impl Compaction {
     }
 
     /// Does a slice of the compaction, if one is under way: at most 64 records are read, entered, drafted or deleted, with
-    /// one commit at most. A watcher's acknowledgements in the new records are made at `moment`. Its managers go to
+    /// one commit at most; of those that were appended meanwhile 512, with two at most. So it ends if fewer are appended
+    /// between two slices, however many in all. Behind its end the old records are deleted in slices. A watcher's acknowledgements in the new records are made at `moment`. Its managers go to
     /// `disposer` as soon as they are no longer needed. The compaction goes on at the next call, whatever was appended in
     /// between.
     ///
     /// # Errors
     ///
     /// Those of the ledger; Full also if memory runs out, or if the records are not those of a history that is legal with
-    /// these settings. The compaction is then given up, and the records stay.
+    /// these settings. The compaction is then given up, and the records stay; what it has drafted is deleted by the next
+    /// slices.
     pub fn tend<D: DraftLedger, B: Disposer>(
         &mut self,
         alloc: Global,

@@ -36,13 +36,15 @@ pub(crate) fn finish<B: Disposer>(
         drafted,
         drafts,
     } = c;
+    disposer.dispose(Waste::Steps(steps));
     let Ok(()) = acknowledge_surveyed(alloc, &survey, &mut fresh, moment) else {
+        disposer.dispose(Waste::Manager(fresh));
         return Err(LedgerFault::Full);
     };
     let Ok(shifts) = shifts_between(alloc, &survey, &fresh) else {
+        disposer.dispose(Waste::Manager(fresh));
         return Err(LedgerFault::Full);
     };
-    disposer.dispose(Waste::Steps(steps));
     Ok(Finish {
         fresh,
         shifts,

@@ -1,17 +1,17 @@
 //! Drafting what was appended meanwhile, and putting the drafts in the place of the records.
 
-ghost use Rattle.std.specs.Prelude.{◌≡◌, List, take, drop, OnOk};
+ghost use Rattle.std.specs.Prelude.{◌≡◌, ◌≤◌, ◌+◌, true, List, length, take, drop, IfOk, OnOk};
 ghost use Rattle.std.specs.Global.{Global};
 ghost use Rattle.ups_life.specs.Settings.{Settings};
 ghost use Rattle.ups_journal.specs.declared.record.Record.{Record};
-ghost use Rattle.ups_lasting.specs.Exchanging.{Follows, EndsExchange};
+ghost use Rattle.ups_lasting.specs.Exchanging.{Drafts, Follows, EndsExchange};
 ghost use Rattle.ups_lasting.specs.Slices.{Stays};
 ghost use Rattle.ups_lasting.specs.Stages.{IsFollowed};
 ghost use Rattle.ups_lasting.specs.Standing.{firsts};
 
 use crate::draft_ledger::DraftLedger;
 use crate::drafting::draft;
-use crate::stage::{Follow, SLICE};
+use crate::stage::{FOLLOWED, Follow};
 use std::alloc::Global;
 use ups_journal::Record;
 use ups_ledger::LedgerFault;
@@ -37,7 +37,9 @@ fn follow_with<D: DraftLedger>(
     f: &mut Follow,
     records: &[Record<Global>],
 ) -> Result<(), LedgerFault>
-    ensures followed { OnOk result ((s : Settings) → (content : List (Record Global)) → records.now ≡ take SLICE (drop f.old.read content) → IsFollowed s content f.old → IsFollowed s content f.new) }
+    ensures followed { OnOk result ((s : Settings) → (content : List (Record Global)) → records.now ≡ take FOLLOWED (drop f.old.read content) → IsFollowed s content f.old → IsFollowed s content f.new) }
+    ensures read { OnOk result (f.new.read ≡ f.old.read + length records.now) }
+    ensures shifts { f.new.shifts ≡ f.old.shifts }
     ensures put { OnOk result (D.is_sound ledger.new → D.drafts ledger.old ≡ firsts f.old.drafts.items → D.drafts ledger.new ≡ firsts f.new.drafts.items) }
     ensures stays { Stays D.DraftLedger ledger.old ledger.new }
 {
@@ -69,8 +71,30 @@ fn exchange<D: DraftLedger>(ledger: &mut D) -> Result<Followed, LedgerFault>
     }
 }
 
-/// Drafts the next records that were appended meanwhile, at most `SLICE`, with lesser numbers. If none is left, it puts the
-/// drafts in the place of the records.
+/// Drafts the next records that were appended meanwhile, at most `FOLLOWED`, with lesser numbers. Returns whether none is
+/// left.
+///
+/// Errors: those of the ledger; Full.
+fn catch_up<D: DraftLedger>(
+    alloc: Global,
+    ledger: &mut D,
+    f: &mut Follow,
+) -> Result<bool, LedgerFault>
+    ensures drafts { OnOk result (Drafts D.DraftLedger ledger.old ledger.new f.old f.new) }
+    ensures all { IfOk result (λ all. all ≡ true → D.is_sound ledger.new → length (D.kept ledger.old) ≤ f.new.read) }
+    ensures shifts { f.new.shifts ≡ f.old.shifts }
+    ensures stays { Stays D.DraftLedger ledger.old ledger.new }
+{
+    let records = ledger.read(f.read as u64, FOLLOWED)?;
+    if records.is_empty() {
+        return Ok(true);
+    }
+    follow_with(alloc, ledger, f, &records)?;
+    Ok(records.len() < FOLLOWED)
+}
+
+/// Drafts the next records that were appended meanwhile, at most `FOLLOWED`, with lesser numbers. If none is left then, it
+/// puts the drafts in the place of the records at once, before others are appended.
 ///
 /// Errors: those of the ledger; Full. The records stay.
 pub(crate) fn follow_on<D: DraftLedger>(
@@ -80,15 +104,9 @@ pub(crate) fn follow_on<D: DraftLedger>(
 ) -> Result<Followed, LedgerFault>
     ensures follows { Follows D.DraftLedger ledger.old ledger.new f.old f.new result }
 {
-    let records = match ledger.read(f.read as u64, SLICE) {
-        Ok(records) => records,
-        Err(fault) => return Err(fault),
-    };
-    if records.is_empty() {
-        return exchange(ledger);
-    }
-    match follow_with(alloc, ledger, f, &records) {
-        Ok(()) => Ok(Followed::Drafted),
+    match catch_up(alloc, ledger, f) {
+        Ok(true) => exchange(ledger),
+        Ok(false) => Ok(Followed::Drafted),
         Err(fault) => Err(fault),
     }
 }

@@ -278,7 +278,8 @@ impl<D: DraftLedger> Ledger for LastingLedger<D> {
             return Ok(Tending::Resting);
         }
         let is_due = self.is_due(at);
-        self.compaction.begin_if(is_due);
+        let records = self.ledger.len();
+        self.compaction.begin_if(is_due, records);
         match self.compaction.coming_with(self.alloc, &self.shifts) {
             Ok(total) => self.turn(dated(moment), total, disposer),
             Err(fault) => {

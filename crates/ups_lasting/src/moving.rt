@@ -13,7 +13,7 @@ use crate::finishing::{begin_follow, finish, finish_on};
 use crate::stage::{Carriage, Finish, SLICE, Sorting, Stage};
 use crate::surveying::{emptied, survey};
 use std::alloc::Global;
-use ups_ledger::{Disposer, LedgerFault};
+use ups_ledger::{Disposer, LedgerFault, Waste};
 use ups_manager::Manager;
 
 /// Deletes drafts of an earlier compaction. Returns the stage after that.
@@ -34,22 +34,41 @@ fn clear<D: DraftLedger>(
     Ok(Stage::Clearing)
 }
 
-/// Enters further records into a manager. Returns the stage after that.
+/// Hands the managers and steps of a compaction that is given up to the disposer.
+fn discard<B: Disposer>(stage: Stage, disposer: &B) {
+    match stage {
+        Stage::Surveying(whole) => disposer.dispose(Waste::Manager(whole)),
+        Stage::Carrying(c) => {
+            disposer.dispose(Waste::Manager(c.fresh));
+            disposer.dispose(Waste::Steps(c.steps));
+        }
+        Stage::Finishing(f) => disposer.dispose(Waste::Manager(f.fresh)),
+        _ => {}
+    }
+}
+
+/// Enters further records into a manager, until it has the first `upto`. Returns the stage after that.
 ///
 /// Errors: those of the ledger; Full.
-fn survey_next<D: DraftLedger>(
+fn survey_next<D: DraftLedger, B: Disposer>(
     alloc: Global,
     ledger: &mut D,
     whole: Manager<Global>,
+    upto: u64,
+    disposer: &B,
 ) -> Result<Stage, LedgerFault>
     ensures agrees { IfOk result (λ next. D.is_sound ledger.new → (s : Settings) → Agrees s (Stage.Surveying whole) (D.kept ledger.old) (D.drafts ledger.old) → Agrees s next (D.kept ledger.old) (D.drafts ledger.new)) }
     ensures stays { Stays D.DraftLedger ledger.old ledger.new }
 {
     let mut whole = whole;
-    if !survey(alloc, ledger, &mut whole)? {
-        return Ok(Stage::Surveying(whole));
+    match survey(alloc, ledger, &mut whole, upto) {
+        Ok(true) => Ok(Stage::Sorting(begin_sorting(alloc, whole, disposer)?)),
+        Ok(false) => Ok(Stage::Surveying(whole)),
+        Err(fault) => {
+            discard(Stage::Surveying(whole), disposer);
+            Err(fault)
+        }
     }
-    Ok(Stage::Sorting(begin_sorting(alloc, whole)?))
 }
 
 /// Puts further steps in order. Returns the stage after that.
@@ -58,7 +77,7 @@ fn survey_next<D: DraftLedger>(
 fn sort_next<B: Disposer>(alloc: Global, n: Sorting, disposer: &B) -> Result<Stage, LedgerFault>
     ensures agrees { IfOk result (λ next. (s : Settings) → (content drafts : List (Record Global)) → Agrees s (Stage.Sorting n) content drafts → Agrees s next content drafts) }
 {
-    let Sorting { whole, steps } = sort_on(alloc, n)?;
+    let Sorting { whole, steps } = sort_on(alloc, n, disposer)?;
     match steps.finish() {
         Ok(steps) => Ok(Stage::Carrying(begin_carriage(alloc, whole, steps, disposer)?)),
         Err(steps) => Ok(Stage::Sorting(Sorting { whole, steps })),
@@ -80,10 +99,14 @@ fn carry_next<D: DraftLedger, B: Disposer>(
     ensures stays { Stays D.DraftLedger ledger.old ledger.new }
 {
     let mut c = c;
-    if !carry_on(alloc, ledger, &mut c)? {
-        return Ok(Stage::Carrying(c));
+    match carry_on(alloc, ledger, &mut c) {
+        Ok(true) => Ok(Stage::Finishing(finish(alloc, c, moment, disposer)?)),
+        Ok(false) => Ok(Stage::Carrying(c)),
+        Err(fault) => {
+            discard(Stage::Carrying(c), disposer);
+            Err(fault)
+        }
     }
-    Ok(Stage::Finishing(finish(alloc, c, moment, disposer)?))
 }
 
 /// Drafts further entries of a compacted history. Returns the stage after that.
@@ -99,13 +122,18 @@ fn finish_next<D: DraftLedger, B: Disposer>(
     ensures stays { Stays D.DraftLedger ledger.old ledger.new }
 {
     let mut f = f;
-    if !finish_on(alloc, ledger, &mut f)? {
-        return Ok(Stage::Finishing(f));
+    match finish_on(alloc, ledger, &mut f) {
+        Ok(true) => Ok(Stage::Following(begin_follow(f, disposer))),
+        Ok(false) => Ok(Stage::Finishing(f)),
+        Err(fault) => {
+            discard(Stage::Finishing(f), disposer);
+            Err(fault)
+        }
     }
-    Ok(Stage::Following(begin_follow(f, disposer)))
 }
 
-/// Does a slice of a compaction up to the end of a compacted history. Returns the stage after that.
+/// Does a slice of a compaction of the first `upto` records, up to the end of the compacted history. Returns the stage
+/// after that.
 ///
 /// Errors: those of the ledger; Full.
 pub(crate) fn move_on<D: DraftLedger, B: Disposer>(
@@ -113,6 +141,7 @@ pub(crate) fn move_on<D: DraftLedger, B: Disposer>(
     ledger: &mut D,
     empty: &Manager<Global>,
     stage: Stage,
+    upto: u64,
     moment: u64,
     disposer: &B,
 ) -> Result<Stage, LedgerFault>
@@ -122,7 +151,7 @@ pub(crate) fn move_on<D: DraftLedger, B: Disposer>(
 {
     match stage {
         Stage::Clearing => clear(alloc, ledger, empty),
-        Stage::Surveying(whole) => survey_next(alloc, ledger, whole),
+        Stage::Surveying(whole) => survey_next(alloc, ledger, whole, upto, disposer),
         Stage::Sorting(n) => sort_next(alloc, n, disposer),
         Stage::Carrying(c) => carry_next(alloc, ledger, c, moment, disposer),
         Stage::Finishing(f) => finish_next(alloc, ledger, f, disposer),

@@ -12,6 +12,10 @@ use ups_restore::Survey;
 /// The most records that are read, entered, drafted or deleted in a slice.
 pub(crate) const SLICE: usize = 64;
 
+/// The most records that are drafted in a slice of following: more than are appended between two slices, so that the
+/// drafts catch up with a ledger that grows.
+pub(crate) const FOLLOWED: usize = 512;
+
 /// The most UIDs that are put in order in a slice.
 pub(crate) const SORTED: usize = 512;
 
@@ -32,6 +36,9 @@ pub enum Stage {
     Finishing(Finish),
     /// What was appended meanwhile is drafted.
     Following(Follow),
+    /// The records that drafts have replaced, or the drafts of a compaction that was given up, are deleted, so that others
+    /// can have their room.
+    Freeing,
 }
 
 /// The steps that are put in order.

@@ -102,19 +102,23 @@ fn survey_part(
 }
 
 /// Reads the next records of a ledger, at most `SLICE`, and enters them into the manager that has those before them. Returns
-/// whether none was left.
+/// whether it has the first `upto` of them then, or none was left.
 ///
 /// Errors: those of the ledger; Full if one is not entered.
 pub(crate) fn survey<D: DraftLedger>(
     alloc: Global,
     ledger: &mut D,
     whole: &mut Manager<Global>,
+    upto: u64,
 ) -> Result<bool, LedgerFault>
     ensures surveyed { OnOk result (D.is_sound ledger.new → (s : Settings) → IsSurveyed s (D.kept ledger.old) whole.old → IsSurveyed s (D.kept ledger.old) whole.new) }
     ensures drafts { D.is_sound ledger.new → D.drafts ledger.new ≡ D.drafts ledger.old }
     ensures stays { Stays D.DraftLedger ledger.old ledger.new }
 {
     let records = ledger.read(whole.entries() as u64, SLICE)?;
+    if records.is_empty() {
+        return Ok(true);
+    }
     survey_part(alloc, whole, &records)?;
-    Ok(records.is_empty())
+    Ok(upto <= whole.entries() as u64)
 }

@@ -4,4 +4,4 @@ use Rattle.ups_lasting.proofs.Carried.{carried_none}
 use Rattle.ups_lasting.proofs.carrying.begin_carriage.Goals as goal
 
 pub returns-clause-carried : goal.returns-clause-carried
-returns-clause-carried g c = λ s content i needed. carried_none s content c.args.whole _ _ _ _ c.in-Ok.ensures needed c.in_ok-fresh.ensures.history (ap firsts c.new.ensures) i
+returns-clause-carried g c = λ s content i needed. carried_none s content c.args.whole _ _ _ _ c.in-Ok-of.ensures needed c.in-Ok.ensures.history (ap firsts c.new.ensures) i

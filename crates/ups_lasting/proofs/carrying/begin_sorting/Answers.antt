@@ -5,6 +5,6 @@ use Rattle.ups_compact.specs.Compacting.{steps_needed}
 use Rattle.ups_lasting.proofs.carrying.begin_sorting.Goals as goal
 
 pub returns : goal.returns
-returns c = record {
+returns g c = record {
   sorting = λ s content i. (i, c.new.ensures ∙ (c.in-Ok.ensures.needed ∙ ap (λ (x : Settings). steps_needed x (past c.args.whole.history)) i.settings));
 }

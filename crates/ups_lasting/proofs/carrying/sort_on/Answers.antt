@@ -2,4 +2,4 @@ use Rattle.std.proofs.Common.{◌∙◌}
 use Rattle.ups_lasting.proofs.carrying.sort_on.Goals as goal
 
 pub returns-in-Ok : goal.returns-in-Ok
-returns-in-Ok c = record { sorting = λ s content i. (i.0, c.in-Ok.ensures ∙ i.1) }
+returns-in-Ok g c = record { sorting = λ s content i. (i.0, c.in-Ok.ensures ∙ i.1) }

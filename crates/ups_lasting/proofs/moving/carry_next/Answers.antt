@@ -1,8 +1,11 @@
 use Rattle.std.proofs.Common.{sym, ◌∙◌}
 use Rattle.ups_lasting.proofs.moving.carry_next.Goals as goal
 
-pub returns-clause-agrees : goal.returns-clause-agrees
-returns-clause-agrees g c = λ k s i. (
-  c.in_ok-finish.ensures.finished s _ (c.in_ok-carry_on.ensures.carried k s i.0) (c.in_ok-carry_on.ensures.all c.if-not-branch.false),
-  c.in_ok-carry_on.ensures.put k i.1 ∙ sym c.in_ok-finish.ensures.drafts,
+pub returns-in_ok-finish-in-Ok-true-clause-agrees : goal.returns-in_ok-finish-in-Ok-true-clause-agrees
+returns-in_ok-finish-in-Ok-true-clause-agrees g c = λ k s i. (
+  c.in_ok-finish-in-Ok-true.ensures.finished s _ (c.in-Ok-true.ensures.carried k s i.0) (c.in-Ok-true.ensures.all c.in-Ok-true.field-0-test),
+  c.in-Ok-true.ensures.put k i.1 ∙ sym c.in_ok-finish-in-Ok-true.ensures.drafts,
 )
+
+pub returns-in-Ok-false-clause-agrees : goal.returns-in-Ok-false-clause-agrees
+returns-in-Ok-false-clause-agrees g c = λ k s i. (c.in-Ok-false.ensures.carried k s i.0, c.in-Ok-false.ensures.put k i.1)

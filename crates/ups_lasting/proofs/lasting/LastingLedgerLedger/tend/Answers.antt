@@ -4,7 +4,7 @@ use Rattle.ups_compact.specs.Shifts.{less_by}
 use Rattle.ups_lasting.specs.Doubting.{is_exchange}
 use Rattle.ups_lasting.specs.Leaving.{LeavesStanding}
 use Rattle.ups_lasting.specs.Standing.{StandsForLog}
-use Rattle.ups_lasting.proofs.Turning.{agreed_resting}
+use Rattle.ups_lasting.proofs.Turning.{agreed_freeing}
 use Rattle.ups_lasting.proofs.lasting.LastingLedgerLedger.tend.Goals as goal
 
 pub invariant_of-self : goal.invariant_of-self
@@ -31,7 +31,7 @@ invariant_of-self-in-Err-clause-left g c =
     subst (λ (x : Settings). LeavesStanding g.D.DraftLedger x l.ledger l.content l.log l.tried (less_by l.shifts) (is_exchange l.doubt)) (sym (c.give_up.ensures.settings ∙ c.begin_if.ensures.settings)) l.left
 
 pub invariant_of-self-in-Err-clause-agrees : goal.invariant_of-self-in-Err-clause-agrees
-invariant_of-self-in-Err-clause-agrees g c = agreed_resting g.D.DraftLedger c.give_up.new.self.empty.settings c.args.self.now.ledger c.args.self.now.ledger c.give_up.new.self.stage c.give_up.ensures.stage
+invariant_of-self-in-Err-clause-agrees g c = agreed_freeing g.D.DraftLedger c.give_up.new.self.empty.settings c.args.self.now.ledger c.args.self.now.ledger c.give_up.new.self.stage c.give_up.ensures.stage
 
 pub returns-in-Ok-clause-crash : goal.returns-in-Ok-clause-crash
 returns-in-Ok-clause-crash g c = λ first rs leaves. inr (c.turn.ensures.crash first rs leaves)
