@@ -140,15 +140,18 @@ impl Tender {
                 tell_compacted(rt, before, after, self.elapsed(rt));
             }
             Err(fault) => {
+                let is_told = self.is_resting(now);
                 self.failed = Some(now);
                 self.compactions.is_failing = true;
-                tell_uncompacted(rt, fault);
+                if !is_told {
+                    tell_uncompacted(rt, fault);
+                }
             }
         }
     }
 
     /// Does a slice of a compaction of the ledger if one is under way, or if at least `at` records are new. What it no
-    /// longer needs is dropped in another thread. After a failure nothing is done for a minute.
+    /// longer needs is dropped in another thread. In the minute after a failure none begins: what was drafted is deleted.
     pub(crate) fn tend<L: Ledger, R: Threads + Clock + Log>(
         &mut self,
         rt: &R,
@@ -158,9 +161,7 @@ impl Tender {
         ensures goes_on { (history : List (Entry Global)) → KeeperGoesOn L.Ledger keeper.old history keeper.new history }
     {
         let now = moment_of(rt);
-        if self.is_resting(now) {
-            return;
-        }
+        let at = if self.is_resting(now) { u64::MAX } else { at };
         if !self.is_going {
             self.begun = Instant::now(rt).ok();
         }
