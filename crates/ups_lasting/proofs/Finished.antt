@@ -1,17 +1,21 @@
 -- A compacted history of the first records.
-use Rattle.std.proofs.Common.{◌≡◌, ℕ, ◌≤◌, false, List, ◌++◌, length, take, sym, ap, subst, ◌∙◌, arith}
-use Rattle.std.proofs.lemmas.List.{reverse-reverse}
+use Rattle.std.proofs.Common.{◌≡◌, ℕ, ◌+◌, ◌≤◌, false, List, [], ◌++◌, length, map, take, drop, sym, ap, subst, ◌∙◌, arith}
+use Rattle.std.specs.List.{All}
+use Rattle.std.proofs.lemmas.List.{append-nil, drop-take, reverse-reverse, take_all}
 use Rattle.std.specs.Global.{Global}
 use Rattle.ups_life.specs.declared.entry.Entry.{Entry}
 use Rattle.ups_life.specs.Settings.{Settings}
 use Rattle.ups_life.specs.Steps.{past}
 use Rattle.ups_journal.specs.declared.record.Record.{Record}
+use Rattle.ups_journal.specs.Columns.{recorded}
+use Rattle.ups_journal.specs.Writable.{IsWritableEntry}
 use Rattle.ups_manager.specs.View.{ManagerView}
 use Rattle.ups_compact.specs.Compacting.{has_title_twice, left_for, steps_needed, compacted_for}
 use Rattle.ups_compact.specs.Course.{IsLeftOf}
 use Rattle.ups_compact.specs.Shifting.{shift}
 use Rattle.ups_compact.proofs.Standing.{left_itself, left_less}
-use Rattle.ups_lasting.specs.Stages.{AreRecordsOf, AreDrafted, AreCarried, AreFinished, IsLeftLess}
+use Rattle.ups_restore.specs.Lessening.{lessened}
+use Rattle.ups_lasting.specs.Stages.{AreRecordsOf, AreDrafted, AreCarried, AreFinished, AreFollowed, IsLeftLess}
 use Rattle.ups_lasting.proofs.Drafted.{drafted_longer}
 
 -- what is left of a history is left of it as its own log
@@ -21,6 +25,7 @@ left_of caller moment s log new content less o once is numbers = record {
   left =
       subst (λ (es : List (Entry Global)). IsLeftOf s es log) (sym (ap past is) ∙ reverse-reverse new)
       (left_less s log log (left_itself s log o.legally) caller moment once);
+  compacted = record { caller = caller; moment = moment; is = is };
   numbers = numbers;
 }
 
@@ -54,3 +59,22 @@ finished_drafted s content kept less from drafted n drafts after on f = record {
   left = f.left;
   drafts_are = λ log o. on (f.drafts_are log o);
 }
+
+-- all of it is drafted: what follows begins
+pub finished_begins : (s : Settings) (content : List (Record Global)) (kept : List (Entry Global)) (less : List ℕ → ℕ) (from drafted : ℕ) (drafts : List (Record Global))
+    → AreFinished s content kept less from drafted drafts → length kept ≤ drafted → AreFollowed s content less from from drafts
+finished_begins s content kept less from drafted drafts f low =
+    let all : take drafted kept ≡ kept = take_all drafted kept low in
+    let none : drop from (take from content) ≡ [] = ap (λ (n : ℕ). drop from (take n content)) (let same : from ≡ from + 0 = omega arith in same) ∙ drop-take from 0 content in
+    record {
+      behind = omega arith;
+      within = f.within;
+      goes = λ log o once.
+          let d = f.drafts_are log o in
+          record {
+            by = kept;
+            writable = subst (λ (es : List (Entry Global)). All (λ (e : Entry Global). IsWritableEntry e) es) all d.writable;
+            left = f.left log o once;
+            are = d.are ∙ (ap (λ (es : List (Entry Global)). map recorded es) all ∙ (sym (append-nil (map recorded kept)) ∙ ap (λ (l : List (Record Global)). map recorded kept ++ map (lessened less) l) (sym none)));
+          };
+    }

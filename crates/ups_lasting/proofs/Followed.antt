@@ -15,8 +15,8 @@ use Rattle.ups_compact.specs.Shifting.{shift}
 use Rattle.ups_compact.proofs.Standing.{left_stands}
 use Rattle.ups_restore.specs.Lessening.{lessened}
 use Rattle.ups_restore.proofs.Onward.{goes_on_by}
-use Rattle.ups_lasting.specs.Stages.{AreFollowed, StandsBy}
-use Rattle.ups_lasting.proofs.Fronts.{take_on, length_on, of_front}
+use Rattle.ups_lasting.specs.Stages.{AreFollowed, ShortenedBy, StandsBy}
+use Rattle.ups_lasting.proofs.Fronts.{take_on, length_on, of_front, of_many}
 
 followed_behind : (s : Settings) (content records copies drafts after : List (Record Global)) (less : List ℕ → ℕ) (from read most : ℕ)
     → records ≡ take most (drop read content) → copies ≡ map (lessened less) records → after ≡ drafts ++ copies
@@ -68,4 +68,19 @@ follows_all s content drafts less from read all f = λ by o once.
       are = map-append recorded g.by m.0 ∙ (ap (λ (l : List (Record Global)). map recorded g.by ++ l) (m.2 ∙ (λ i. map (lessened (numbers i)) (behind i))) ∙ sym g.are);
       shifted = left_stands s (g.by ++ m.0) by (subst (λ (es : List (Entry Global)). IsLeftOf s (g.by ++ m.0) es) whole m.1) once;
       numbers = λ w. ap (λ (es : List (Entry Global)). shift s (past (g.by ++ m.0)) (past es) w) (sym whole) ∙ (m.4 w ∙ sym (g.left.numbers w));
+    } ∣₁
+
+-- THE DRAFTS ARE THE RECORDS, SHORTENED, once nothing is left to draft
+pub shortens_all : (s : Settings) (content drafts : List (Record Global)) (less : List ℕ → ℕ) (from read begun : ℕ) → begun ≤ from → length content ≤ read → AreFollowed s content less from read drafts → ShortenedBy s begun content drafts less
+shortens_all s content drafts less from read begun most all f = λ by o once.
+    let g = f.goes (take from by) (of_front s from content by o) once in
+    let behind : map recorded (drop from by) ≡ drop from (take read content) = sym (drop-map recorded from by) ∙ (ap (drop from) o.are ∙ ap (drop from) (sym (take_all read content all))) in
+    ∣ record {
+      from = from;
+      most = most;
+      within = omega (arith, of_many s content by o, f.behind, f.within);
+      by = g.by;
+      writable = g.writable;
+      left = g.left;
+      are = g.are ∙ ap (λ (rs : List (Record Global)). map recorded g.by ++ map (lessened less) rs) (sym behind);
     } ∣₁

@@ -8,7 +8,7 @@ use Rattle.ups_journal.specs.declared.record.Record.{Record}
 use Rattle.ups_manager.specs.View.{ManagerView}
 use Rattle.ups_lasting.specs.declared.stage.Stage.{Stage}
 use Rattle.ups_lasting.specs.declared.stage.Stage.TheVariants.{Resting, Clearing, Surveying, Sorting as Sort, Carrying, Finishing, Following, Freeing}
-use Rattle.ups_lasting.specs.Stages.{AreRecordsOf, IsSurveyed, AreCarried, AreFinished, AreFollowed, GoesOnDrafted, Agrees}
+use Rattle.ups_lasting.specs.Stages.{AreRecordsOf, IsSurveyed, AreCarried, AreFinished, AreFollowed, GoesOnDrafted, Agrees, Covers}
 
 module _ (s : Settings) (content more : List (Record Global)) where
   -- the first records are the same
@@ -63,3 +63,14 @@ agrees_on s (Carrying c) content more drafts a = (carried_more s content more _ 
 agrees_on s (Finishing f) content more drafts a = (finished_more s content more _ _ _ _ _ a.0, a.1)
 agrees_on s (Following f) content more drafts a = (followed_more s content more _ _ _ _ a.0, a.1)
 agrees_on s Freeing content more drafts a = tt
+
+-- it goes on to cover as many of the records
+pub covers_on : (begun : ℕ) (stage : Stage) (content more : List (Record Global)) → Covers begun stage content → Covers begun stage (content ++ more)
+covers_on begun Resting content more a = a
+covers_on begun Clearing content more a = omega (arith, a, length-append content more)
+covers_on begun (Surveying whole) content more a = omega (arith, a, length-append content more)
+covers_on begun (Sort n) content more a = a
+covers_on begun (Carrying c) content more a = a
+covers_on begun (Finishing f) content more a = a
+covers_on begun (Following f) content more a = a
+covers_on begun Freeing content more a = a

@@ -1,6 +1,6 @@
 -- What a slice does that drafts what was appended meanwhile, and puts the drafts in the place of the records once nothing is left
 -- to draft.
-use Rattle.std.specs.Prelude.{◌≡◌, ◌⊎◌, List, Result, Ok, Err}
+use Rattle.std.specs.Prelude.{◌≡◌, ◌⊎◌, ◌≤◌, ℕ, List, Result, Ok, Err}
 use Rattle.std.specs.Global.{Global}
 use Rattle.ups_life.specs.Settings.{Settings}
 use Rattle.ups_journal.specs.declared.record.Record.{Record}
@@ -11,19 +11,21 @@ use Rattle.ups_lasting.specs.declared.stage.Follow.{Follow}
 use Rattle.ups_lasting.specs.declared.following.Followed.{Followed}
 use Rattle.ups_lasting.specs.declared.following.Followed.TheVariants.{Drafted, Exchanged, Doubtful}
 use Rattle.ups_lasting.specs.Slices.{Stays}
-use Rattle.ups_lasting.specs.Stages.{IsFollowed, StandsBy}
+use Rattle.ups_lasting.specs.Stages.{IsFollowed, ShortenedBy, StandsBy}
 use Rattle.ups_lasting.specs.Standing.{firsts}
 
 module _ {L : Type 0} (g : Ghosts L) where
-  -- these records stand for those of the ledger, if what is known of the drafts holds
+  -- these records stand for those of the ledger, and are those, shortened, if what is known of the drafts holds
   abbrev pub StandsIf : L → Follow → List (Record Global) → Type 0
-  StandsIf old f rs = (s : Settings) → IsFollowed s (g.kept old) f → g.drafts old ≡ firsts f.drafts.items → StandsBy s (g.kept old) rs (less_by f.shifts)
+  StandsIf old f rs = (s : Settings) → IsFollowed s (g.kept old) f → g.drafts old ≡ firsts f.drafts.items
+      → StandsBy s (g.kept old) rs (less_by f.shifts) × ((begun : ℕ) → begun ≤ f.from → ShortenedBy s begun (g.kept old) rs (less_by f.shifts))
 
   -- more is drafted
   pub record Drafts (old new : L) (f h : Follow) : Type 0 where
     pub stays : Stays g old new
     pub followed : g.is_sound new → (s : Settings) → IsFollowed s (g.kept old) f → IsFollowed s (g.kept old) h
     pub put : g.is_sound new → g.drafts old ≡ firsts f.drafts.items → g.drafts new ≡ firsts h.drafts.items
+    pub from : h.from ≡ f.from
 
   -- the drafts are the records
   pub record HasExchanged (old new : L) (f h : Follow) : Type 0 where

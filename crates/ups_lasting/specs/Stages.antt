@@ -1,6 +1,6 @@
 -- The stages of a compaction beside a ledger that grows: what each of them has to do with the records of the ledger, its content,
 -- and with its drafts. Histories here have their oldest entry first.
-use Rattle.std.specs.Prelude.{◌≡◌, ◌≤◌, ℕ, false, List, [], ◌++◌, length, map, take, drop, All, Option, None, Some}
+use Rattle.std.specs.Prelude.{◌≡◌, ◌≤◌, ℕ, Bool, true, false, List, [], ◌++◌, length, map, take, drop, All, Option, None, Some}
 use Rattle.std.specs.Global.{Global}
 use Rattle.ups_life.specs.declared.entry.Entry.{Entry}
 use Rattle.ups_life.specs.Settings.{Settings}
@@ -10,7 +10,7 @@ use Rattle.ups_journal.specs.Columns.{recorded}
 use Rattle.ups_journal.specs.Writable.{IsWritableEntry}
 use Rattle.ups_service.specs.Law.{is_legal}
 use Rattle.ups_manager.specs.View.{ManagerView}
-use Rattle.ups_compact.specs.Compacting.{has_title_twice, left_for, steps_needed}
+use Rattle.ups_compact.specs.Compacting.{compacted_for, has_title_twice, left_for, steps_needed}
 use Rattle.ups_compact.specs.Course.{IsLeftOf}
 use Rattle.ups_compact.specs.Shifting.{shift}
 use Rattle.ups_compact.specs.Shifts.{less_by}
@@ -61,9 +61,16 @@ pub record AreCarried (s : Settings) (content : List (Record Global)) (whole : M
 abbrev pub IsCarried : Settings → List (Record Global) → Carriage → Type 0
 IsCarried s content c = AreCarried s content c.survey c.steps c.fresh.history c.read c.drafted (firsts c.drafts.items)
 
--- the history is left of a log, and the numbers of each watcher's events are less by this much
+-- the history is the compaction of a log for the steps needed
+pub record IsCompacted (s : Settings) (log by : List (Entry Global)) : Type 0 where
+  pub caller : ℕ
+  pub moment : ℕ
+  pub is : past by ≡ compacted_for caller moment s (steps_needed s (past log)) (past log)
+
+-- the history is left of a log, whose compaction it is, and the numbers of each watcher's events are less by this much
 pub record IsLeftLess (s : Settings) (log by : List (Entry Global)) (less : List ℕ → ℕ) : Type 0 where
   pub left : IsLeftOf s by log
+  pub compacted : IsCompacted s log by
   pub numbers : (w : List ℕ) → less w ≡ shift s (past by) (past log) w
 
 -- the history is left of the first records, and the records of its first entries are drafted
@@ -112,3 +119,43 @@ coming (Carrying c) = None
 coming (Finishing f) = None
 coming (Following f) = Some f.shifts
 coming Freeing = None
+
+-- THE RECORDS ARE SHORTENED: those of the first entries of a history, at least so many of them, are compacted; behind them come
+-- those of the other entries, made less
+pub record AreShortened (s : Settings) (begun : ℕ) (after : List (Record Global)) (log : List (Entry Global)) (less : List ℕ → ℕ) : Type 0 where
+  pub from : ℕ
+  pub most : begun ≤ from
+  pub within : from ≤ length log
+  pub by : List (Entry Global)
+  pub writable : All (λ (e : Entry Global). IsWritableEntry e) by
+  pub left : IsLeftLess s (take from log) by less
+  pub are : after ≡ map recorded by ++ map (lessened less) (map recorded (drop from log))
+
+-- the records `after` are those of each legal history that has the records `before`, shortened
+abbrev pub ShortenedBy : Settings → ℕ → List (Record Global) → List (Record Global) → (List ℕ → ℕ) → Type 0
+ShortenedBy s begun before after less = (log : List (Entry Global)) → AreRecordsOf s before log → has_title_twice s.peers ≡ false → ∥ AreShortened s begun after log less ∥₁
+
+-- THE STAGE COVERS so many of the records: it goes on to read them, or what it has read or drafted is of them, or of more
+abbrev pub count_covered : ℕ → Stage → List (Record Global) → ℕ
+count_covered begun Resting content = begun
+count_covered begun Clearing content = length content
+count_covered begun (Surveying whole) content = length content
+count_covered begun (Sort n) content = length n.whole.history
+count_covered begun (Carrying c) content = length c.survey.history
+count_covered begun (Finishing f) content = f.from
+count_covered begun (Following f) content = f.from
+count_covered begun Freeing content = begun
+
+abbrev pub Covers : ℕ → Stage → List (Record Global) → Type 0
+Covers begun stage content = begun ≤ count_covered begun stage content
+
+-- nothing is under way
+abbrev pub is_idle : Stage → Bool
+is_idle Resting = true
+is_idle Clearing = false
+is_idle (Surveying whole) = false
+is_idle (Sort n) = false
+is_idle (Carrying c) = false
+is_idle (Finishing f) = false
+is_idle (Following f) = false
+is_idle Freeing = false

@@ -35,6 +35,7 @@ pub(crate) fn begin_sorting<B: Disposer>(
     disposer: &B,
 ) -> Result<Sorting, LedgerFault>
     ensures sorting { IfOk result (λ n. (s : Settings) → (content : List (Record Global)) → IsSurveyed s content whole → IsSorting s content n) }
+    ensures same { IfOk result (λ n. length n.whole.history ≡ length whole.history) }
 {
     let Ok(steps) = list_needed(&whole) else {
         disposer.dispose(Waste::Manager(whole));
@@ -55,6 +56,7 @@ pub(crate) fn sort_on<B: Disposer>(
     disposer: &B,
 ) -> Result<Sorting, LedgerFault>
     ensures sorting { IfOk result (λ next. (s : Settings) → (content : List (Record Global)) → IsSorting s content n → IsSorting s content next) }
+    ensures same { IfOk result (λ next. length next.whole.history ≡ length n.whole.history) }
 {
     let Sorting { whole, steps } = n;
     match steps.sort_on(alloc, SORTED) {
@@ -77,6 +79,7 @@ pub(crate) fn begin_carriage<B: Disposer>(
     disposer: &B,
 ) -> Result<Carriage, LedgerFault>
     ensures carried { IfOk result (λ c. (s : Settings) → (content : List (Record Global)) → IsSurveyed s content whole → steps ≡ steps_needed s (past whole.history) → IsCarried s content c) }
+    ensures same { IfOk result (λ c. length c.survey.history ≡ length whole.history) }
     ensures drafts { IfOk result (λ c. firsts c.drafts.items ≡ []) }
 {
     let Ok(fresh) = emptied(alloc, &whole) else {
@@ -143,6 +146,7 @@ fn carry_part(
 /// Errors: those of the ledger; Full if one is not entered.
 fn carry<D: DraftLedger>(alloc: Global, ledger: &mut D, c: &mut Carriage) -> Result<(), LedgerFault>
     ensures carried { OnOk result (D.is_sound ledger.new → (s : Settings) → IsCarried s (D.kept ledger.old) c.old → IsCarried s (D.kept ledger.old) c.new) }
+    ensures survey { c.new.survey ≡ c.old.survey }
     ensures noted { firsts c.new.drafts.items ≡ firsts c.old.drafts.items }
     ensures drafts { D.is_sound ledger.new → D.drafts ledger.new ≡ D.drafts ledger.old }
     ensures stays { Stays D.DraftLedger ledger.old ledger.new }
@@ -168,6 +172,7 @@ pub(crate) fn carry_on<D: DraftLedger>(
 ) -> Result<bool, LedgerFault>
     ensures carried { OnOk result (D.is_sound ledger.new → (s : Settings) → IsCarried s (D.kept ledger.old) c.old → IsCarried s (D.kept ledger.old) c.new) }
     ensures put { OnOk result (D.is_sound ledger.new → D.drafts ledger.old ≡ firsts c.old.drafts.items → D.drafts ledger.new ≡ firsts c.new.drafts.items) }
+    ensures survey { c.new.survey ≡ c.old.survey }
     ensures all { IfOk result (λ all. all ≡ true → length c.new.survey.history ≤ c.new.read) }
     ensures stays { Stays D.DraftLedger ledger.old ledger.new }
 {

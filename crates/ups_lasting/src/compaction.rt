@@ -1,13 +1,12 @@
 //! A compaction of a ledger's records in slices, beside the appends.
 
-ghost use Rattle.std.specs.Prelude.{◌≡◌, ◌⊎◌, ◌+◌, [], ℕ, List, Some, IfOk, IfSome};
+ghost use Rattle.std.specs.Prelude.{◌≡◌, ◌⊎◌, ◌+◌, ◌≤◌, [], false, true, ℕ, List, length, IfOk, IfSome};
 ghost use Rattle.std.specs.Global.{Global};
 ghost use Rattle.ups_journal.specs.declared.record.Record.{Record};
 ghost use Rattle.ups_life.specs.Settings.{IsMoment};
-ghost use Rattle.ups_compact.specs.declared.shifts.Shift.{Shift};
 ghost use Rattle.ups_compact.specs.Shifts.{less_by};
-ghost use Rattle.ups_lasting.specs.Stages.{StandsBy, coming};
-ghost use Rattle.ups_lasting.specs.Tending.{UnlessExchanged, IfStaying, IfExchanged, IfDoubtful, IsAgreed, StandsBySome, Turns};
+ghost use Rattle.ups_lasting.specs.Stages.{Covers, coming, is_idle};
+ghost use Rattle.ups_lasting.specs.Tending.{UnlessExchanged, IfStaying, IfExchanged, IfDoubtful, HaveReplaced, IsAgreed, StandsBySome, Turns};
 
 use crate::draft_ledger::DraftLedger;
 use crate::following::{Followed, follow_on};
@@ -68,7 +67,9 @@ impl Compaction {
     }
 
     /// Returns whether nothing is under way.
-    pub fn is_resting(&self) -> bool {
+    pub fn is_resting(&self) -> bool
+        ensures { result ≡ is_idle self.now.stage }
+    {
         match self.stage {
             Stage::Resting => true,
             _ => false,
@@ -78,6 +79,9 @@ impl Compaction {
     /// Begins a compaction of `records` records if one is due and none is under way.
     pub fn begin_if(&mut self, is_due: bool, records: u64)
         ensures agrees { (content drafts : List (Record Global)) → IsAgreed self.old.empty.settings self.old.stage content drafts → IsAgreed self.new.empty.settings self.new.stage content drafts }
+        ensures covers { (content : List (Record Global)) → records ≤ length content → Covers self.old.begun self.old.stage content → Covers self.new.begun self.new.stage content }
+        ensures begins { is_due ≡ true → is_idle self.old.stage ≡ true → (self.new.begun ≡ records) × (self.new.stage ≡ Stage.Clearing) }
+        ensures goes_on { is_idle self.old.stage ≡ false → (self.new.begun ≡ self.old.begun) × (self.new.stage ≡ self.old.stage) }
         ensures settings { self.new.empty.settings ≡ self.old.empty.settings }
     {
         if is_due && self.is_resting() {
@@ -90,6 +94,7 @@ impl Compaction {
     pub fn give_up(&mut self)
         ensures stage { self.new.stage ≡ Stage.Freeing }
         ensures settings { self.new.empty.settings ≡ self.old.empty.settings }
+        ensures begun { self.new.begun ≡ self.old.begun }
     {
         self.stage = Stage::Freeing;
     }
@@ -120,8 +125,9 @@ impl Compaction {
     ///
     /// Errors: those of the ledger.
     fn free<D: DraftLedger>(&mut self, ledger: &mut D) -> Result<Tended, LedgerFault>
-        ensures turns { Turns D.DraftLedger self.old.empty.settings ledger.old ledger.new Stage.Freeing self.new.stage result }
+        ensures turns { Turns D.DraftLedger self.old.empty.settings self.old.begun ledger.old ledger.new Stage.Freeing self.new.stage result }
         ensures settings { self.new.empty.settings ≡ self.old.empty.settings }
+        ensures begun { self.new.begun ≡ self.old.begun }
     {
         self.stage = Stage::Resting;
         if ledger.clear(SLICE as u32)? {
@@ -142,8 +148,10 @@ impl Compaction {
     ) -> Result<Tended, LedgerFault>
         requires freeing { self.old.stage ≡ Stage.Freeing }
         requires agrees { D.is_sound ledger.old → IsAgreed self.old.empty.settings (Stage.Following f) (D.kept ledger.old) (D.drafts ledger.old) }
-        ensures turns { Turns D.DraftLedger self.old.empty.settings ledger.old ledger.new (Stage.Following f) self.new.stage result }
+        requires covers { D.is_sound ledger.old → Covers self.old.begun (Stage.Following f) (D.kept ledger.old) }
+        ensures turns { Turns D.DraftLedger self.old.empty.settings self.old.begun ledger.old ledger.new (Stage.Following f) self.new.stage result }
         ensures settings { self.new.empty.settings ≡ self.old.empty.settings }
+        ensures begun { self.new.begun ≡ self.old.begun }
     {
         let mut f = f;
         match follow_on(alloc, ledger, &mut f) {
@@ -172,8 +180,10 @@ impl Compaction {
     ) -> Result<Tended, LedgerFault>
         requires moment { IsMoment moment }
         requires agrees { D.is_sound ledger.old → IsAgreed self.old.empty.settings self.old.stage (D.kept ledger.old) (D.drafts ledger.old) }
-        ensures turns { Turns D.DraftLedger self.old.empty.settings ledger.old ledger.new self.old.stage self.new.stage result }
+        requires covers { D.is_sound ledger.old → Covers self.old.begun self.old.stage (D.kept ledger.old) }
+        ensures turns { Turns D.DraftLedger self.old.empty.settings self.old.begun ledger.old ledger.new self.old.stage self.new.stage result }
         ensures settings { self.new.empty.settings ≡ self.old.empty.settings }
+        ensures begun { self.new.begun ≡ self.old.begun }
     {
         let upto = self.begun;
         match replace(&mut self.stage, Stage::Freeing) {
@@ -195,7 +205,8 @@ impl Compaction {
 
     /// Does a slice of the compaction, if one is under way: at most 64 records are read, entered, drafted or deleted, with
     /// one commit at most; of those that were appended meanwhile 512, with two at most. So it ends if fewer are appended
-    /// between two slices, however many in all. Behind its end the old records are deleted in slices. A watcher's acknowledgements in the new records are made at `moment`. Its managers go to
+    /// between two slices, however many in all. The new records are those of the first ones, at least as many as there were
+    /// when it began, compacted, and of those behind, made less; the old ones are deleted by the next slices. A watcher's acknowledgements in the new records are made at `moment`. Its managers go to
     /// `disposer` as soon as they are no longer needed. The compaction goes on at the next call, whatever was appended in
     /// between.
     ///
@@ -213,10 +224,13 @@ impl Compaction {
     ) -> Result<Tended, LedgerFault>
         requires moment { IsMoment moment }
         requires agrees { D.is_sound ledger.old → IsAgreed self.old.empty.settings self.old.stage (D.kept ledger.old) (D.drafts ledger.old) }
+        requires covers { D.is_sound ledger.old → Covers self.old.begun self.old.stage (D.kept ledger.old) }
         ensures agrees { D.is_sound ledger.new → IsAgreed self.new.empty.settings self.new.stage (D.kept ledger.new) (D.drafts ledger.new) }
+        ensures covers { D.is_sound ledger.new → Covers self.new.begun self.new.stage (D.kept ledger.new) }
         ensures settings { self.new.empty.settings ≡ self.old.empty.settings }
+        ensures begun { self.new.begun ≡ self.old.begun }
         ensures same { UnlessExchanged result (D.is_sound ledger.new → D.kept ledger.new ≡ D.kept ledger.old) }
-        ensures exchanged { IfExchanged result (λ records. (extra : List Shift) × (coming self.old.stage ≡ Some extra) × (D.is_sound ledger.new → (D.kept ledger.new ≡ records) × StandsBy self.old.empty.settings (D.kept ledger.old) records (less_by extra))) }
+        ensures exchanged { IfExchanged result (λ records. HaveReplaced D.DraftLedger self.old.empty.settings self.old.begun ledger.old ledger.new self.old.stage records) }
         ensures sound { D.is_sound ledger.new → D.is_sound ledger.old }
         ensures first { D.is_first ledger.new → D.is_first ledger.old }
         ensures crash { IfStaying result (D.is_first ledger.new → (rs : List (Record Global)) → D.recovers ledger.new rs → D.recovers ledger.old rs ⊎ (D.is_sound ledger.old × (rs ≡ D.kept ledger.old))) }

@@ -26,6 +26,7 @@ pub(crate) fn finish<B: Disposer>(
 ) -> Result<Finish, LedgerFault>
     requires { IsMoment moment }
     ensures finished { IfOk result (λ f. (s : Settings) → (content : List (Record Global)) → IsCarried s content c → length c.survey.history ≤ c.read → IsFinished s content f) }
+    ensures from { IfOk result (λ f. f.from ≡ c.read) }
     ensures drafts { IfOk result (λ f. firsts f.drafts.items ≡ firsts c.drafts.items) }
 {
     let Carriage {
@@ -64,6 +65,7 @@ pub(crate) fn finish_on<D: DraftLedger>(
 ) -> Result<bool, LedgerFault>
     ensures finished { OnOk result ((s : Settings) → (content : List (Record Global)) → IsFinished s content f.old → IsFinished s content f.new) }
     ensures put { OnOk result (D.is_sound ledger.new → D.drafts ledger.old ≡ firsts f.old.drafts.items → D.drafts ledger.new ≡ firsts f.new.drafts.items) }
+    ensures from { f.new.from ≡ f.old.from }
     ensures all { IfOk result (λ all. all ≡ true → length f.new.fresh.history ≤ f.new.drafted) }
     ensures stays { Stays D.DraftLedger ledger.old ledger.new }
 {
@@ -73,6 +75,7 @@ pub(crate) fn finish_on<D: DraftLedger>(
 /// Returns the beginning of what follows, once all of a compacted history is drafted.
 pub(crate) fn begin_follow<B: Disposer>(f: Finish, disposer: &B) -> Follow
     ensures followed { (s : Settings) → (content : List (Record Global)) → IsFinished s content f → length f.fresh.history ≤ f.drafted → IsFollowed s content result }
+    ensures from { result.from ≡ f.from }
     ensures drafts { firsts result.drafts.items ≡ firsts f.drafts.items }
 {
     let Finish {

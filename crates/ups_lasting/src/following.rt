@@ -40,6 +40,7 @@ fn follow_with<D: DraftLedger>(
     ensures followed { OnOk result ((s : Settings) → (content : List (Record Global)) → records.now ≡ take FOLLOWED (drop f.old.read content) → IsFollowed s content f.old → IsFollowed s content f.new) }
     ensures read { OnOk result (f.new.read ≡ f.old.read + length records.now) }
     ensures shifts { f.new.shifts ≡ f.old.shifts }
+    ensures from { f.new.from ≡ f.old.from }
     ensures put { OnOk result (D.is_sound ledger.new → D.drafts ledger.old ≡ firsts f.old.drafts.items → D.drafts ledger.new ≡ firsts f.new.drafts.items) }
     ensures stays { Stays D.DraftLedger ledger.old ledger.new }
 {

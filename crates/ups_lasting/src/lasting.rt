@@ -8,9 +8,9 @@ ghost use Rattle.ups_life.specs.Settings.{IsMoment};
 ghost use Rattle.ups_compact.specs.Shifts.{less_by};
 ghost use Rattle.ups_lasting.specs.Doubting.{is_append, is_exchange, is_sure};
 ghost use Rattle.ups_lasting.specs.Leaving.{LeavesOfLog, LeavesStanding};
-ghost use Rattle.ups_lasting.specs.Stages.{coming};
+ghost use Rattle.ups_lasting.specs.Stages.{Covers, coming};
 ghost use Rattle.ups_lasting.specs.Standing.{StandsForLog};
-ghost use Rattle.ups_lasting.specs.Tending.{IsAgreed};
+ghost use Rattle.ups_lasting.specs.Tending.{AreCompacted, IfCompacted, IsAgreed};
 
 use crate::compaction::{Compaction, Tended};
 use crate::doubt::{Doubt, Successor};
@@ -52,6 +52,7 @@ pub struct LastingLedger<D: DraftLedger> {
     ghost stands: { D.is_sound ledger → StandsForLog compaction.empty.settings content log (less_by shifts) },
     ghost left: { LeavesStanding D.DraftLedger compaction.empty.settings ledger content log tried (less_by shifts) (is_exchange doubt) },
     ghost agrees: { D.is_sound ledger → IsAgreed compaction.empty.settings compaction.stage (D.kept ledger) (D.drafts ledger) },
+    ghost covers: { D.is_sound ledger → Covers compaction.begun compaction.stage (D.kept ledger) },
     ghost sure: { is_append doubt ≡ false → tried ≡ [] },
     ghost unsound: { is_exchange doubt ≡ true → ¬ D.is_sound ledger },
 }
@@ -204,6 +205,7 @@ impl<D: DraftLedger> LastingLedger<D> {
         ensures sound { D.is_sound self.new.ledger → D.is_sound self.old.ledger }
         ensures first { D.is_first self.new.ledger → D.is_first self.old.ledger }
         ensures crash { D.is_first self.new.ledger → (rs : List (Record Global)) → LeavesLog self.new rs → D.is_sound self.old.ledger × (rs ≡ self.old.log) }
+        ensures compacted { IfCompacted result (AreCompacted D.DraftLedger self.new.compaction.empty.settings self.new.compaction.begun self.old.ledger self.new.ledger) }
     {
         what_stands_for_a_log_goes_on();
         let LastingLedger {
@@ -241,6 +243,8 @@ impl<D: DraftLedger> LastingLedger<D> {
 }
 
 impl<D: DraftLedger> Ledger for LastingLedger<D> {
+    ghost use Rattle.ups_lasting.specs.LogLeft.{LeavesLog};
+
     ghost kept = { λ l. l.log };
 
     ghost told = { λ l. l.told };
@@ -273,7 +277,14 @@ impl<D: DraftLedger> Ledger for LastingLedger<D> {
         moment: u64,
         at: u64,
         disposer: &B,
-    ) -> Result<Tending, LedgerFault> {
+    ) -> Result<Tending, LedgerFault>
+        ensures same { D.is_sound self.new.ledger → self.new.log ≡ self.old.log }
+        ensures sound { D.is_sound self.new.ledger → D.is_sound self.old.ledger }
+        ensures told { self.new.told ≡ self.old.told }
+        ensures first { D.is_first self.new.ledger → D.is_first self.old.ledger }
+        ensures crash { D.is_first self.new.ledger → (rs : List (Record Global)) → LeavesLog self.new rs → LeavesLog self.old rs ⊎ (D.is_sound self.old.ledger × (rs ≡ self.old.log)) }
+        ensures compacted { IfCompacted result (AreCompacted D.DraftLedger self.new.compaction.empty.settings self.new.compaction.begun self.old.ledger self.new.ledger) }
+    {
         if !self.doubt.is_nothing() || !self.ledger.is_up() {
             return Ok(Tending::Resting);
         }

@@ -1,11 +1,11 @@
 //! From one stage of a compaction to the next.
 
-ghost use Rattle.std.specs.Prelude.{◌≡◌, List, IfOk};
+ghost use Rattle.std.specs.Prelude.{◌≡◌, ℕ, List, IfOk};
 ghost use Rattle.std.specs.Global.{Global};
 ghost use Rattle.ups_journal.specs.declared.record.Record.{Record};
 ghost use Rattle.ups_life.specs.Settings.{Settings, IsMoment};
 ghost use Rattle.ups_lasting.specs.Slices.{Stays};
-ghost use Rattle.ups_lasting.specs.Stages.{Agrees};
+ghost use Rattle.ups_lasting.specs.Stages.{Agrees, Covers};
 
 use crate::carrying::{begin_carriage, begin_sorting, carry_on, sort_on};
 use crate::draft_ledger::DraftLedger;
@@ -25,6 +25,7 @@ fn clear<D: DraftLedger>(
     empty: &Manager<Global>,
 ) -> Result<Stage, LedgerFault>
     ensures agrees { IfOk result (λ next. D.is_sound ledger.new → Agrees empty.now.settings next (D.kept ledger.old) (D.drafts ledger.new)) }
+    ensures covers { IfOk result (λ next. (begun : ℕ) → Covers begun Stage.Clearing (D.kept ledger.old) → Covers begun next (D.kept ledger.old)) }
     ensures stays { Stays D.DraftLedger ledger.old ledger.new }
 {
     let fresh = emptied(alloc, empty)?;
@@ -58,6 +59,7 @@ fn survey_next<D: DraftLedger, B: Disposer>(
     disposer: &B,
 ) -> Result<Stage, LedgerFault>
     ensures agrees { IfOk result (λ next. D.is_sound ledger.new → (s : Settings) → Agrees s (Stage.Surveying whole) (D.kept ledger.old) (D.drafts ledger.old) → Agrees s next (D.kept ledger.old) (D.drafts ledger.new)) }
+    ensures covers { IfOk result (λ next. D.is_sound ledger.new → Covers upto (Stage.Surveying whole) (D.kept ledger.old) → Covers upto next (D.kept ledger.old)) }
     ensures stays { Stays D.DraftLedger ledger.old ledger.new }
 {
     let mut whole = whole;
@@ -76,6 +78,7 @@ fn survey_next<D: DraftLedger, B: Disposer>(
 /// Errors: Full.
 fn sort_next<B: Disposer>(alloc: Global, n: Sorting, disposer: &B) -> Result<Stage, LedgerFault>
     ensures agrees { IfOk result (λ next. (s : Settings) → (content drafts : List (Record Global)) → Agrees s (Stage.Sorting n) content drafts → Agrees s next content drafts) }
+    ensures covers { IfOk result (λ next. (begun : ℕ) → (content : List (Record Global)) → Covers begun (Stage.Sorting n) content → Covers begun next content) }
 {
     let Sorting { whole, steps } = sort_on(alloc, n, disposer)?;
     match steps.finish() {
@@ -96,6 +99,7 @@ fn carry_next<D: DraftLedger, B: Disposer>(
 ) -> Result<Stage, LedgerFault>
     requires { IsMoment moment }
     ensures agrees { IfOk result (λ next. D.is_sound ledger.new → (s : Settings) → Agrees s (Stage.Carrying c) (D.kept ledger.old) (D.drafts ledger.old) → Agrees s next (D.kept ledger.old) (D.drafts ledger.new)) }
+    ensures covers { IfOk result (λ next. (begun : ℕ) → Covers begun (Stage.Carrying c) (D.kept ledger.old) → Covers begun next (D.kept ledger.old)) }
     ensures stays { Stays D.DraftLedger ledger.old ledger.new }
 {
     let mut c = c;
@@ -119,6 +123,7 @@ fn finish_next<D: DraftLedger, B: Disposer>(
     disposer: &B,
 ) -> Result<Stage, LedgerFault>
     ensures agrees { IfOk result (λ next. D.is_sound ledger.new → (s : Settings) → Agrees s (Stage.Finishing f) (D.kept ledger.old) (D.drafts ledger.old) → Agrees s next (D.kept ledger.old) (D.drafts ledger.new)) }
+    ensures covers { IfOk result (λ next. (begun : ℕ) → Covers begun (Stage.Finishing f) (D.kept ledger.old) → Covers begun next (D.kept ledger.old)) }
     ensures stays { Stays D.DraftLedger ledger.old ledger.new }
 {
     let mut f = f;
@@ -147,6 +152,7 @@ pub(crate) fn move_on<D: DraftLedger, B: Disposer>(
 ) -> Result<Stage, LedgerFault>
     requires { IsMoment moment }
     ensures agrees { IfOk result (λ next. D.is_sound ledger.new → Agrees empty.now.settings stage (D.kept ledger.old) (D.drafts ledger.old) → Agrees empty.now.settings next (D.kept ledger.old) (D.drafts ledger.new)) }
+    ensures covers { IfOk result (λ next. D.is_sound ledger.new → Covers upto stage (D.kept ledger.old) → Covers upto next (D.kept ledger.old)) }
     ensures stays { Stays D.DraftLedger ledger.old ledger.new }
 {
     match stage {

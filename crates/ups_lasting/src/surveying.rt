@@ -1,6 +1,6 @@
 //! Entering the records of a ledger into a manager.
 
-ghost use Rattle.std.specs.Prelude.{◌≡◌, ◌+◌, ◌++◌, [], ◌∷◌, List, All, map, length, IfOk, OnOk};
+ghost use Rattle.std.specs.Prelude.{◌≡◌, ◌≤◌, ◌+◌, ◌++◌, [], ◌∷◌, true, List, All, map, length, IfOk, OnOk};
 ghost use Rattle.std.specs.Global.{Global};
 ghost use Rattle.ups_life.specs.declared.entry.Entry.{Entry};
 ghost use Rattle.ups_life.specs.Settings.{Settings};
@@ -112,6 +112,7 @@ pub(crate) fn survey<D: DraftLedger>(
     upto: u64,
 ) -> Result<bool, LedgerFault>
     ensures surveyed { OnOk result (D.is_sound ledger.new → (s : Settings) → IsSurveyed s (D.kept ledger.old) whole.old → IsSurveyed s (D.kept ledger.old) whole.new) }
+    ensures all { IfOk result (λ all. all ≡ true → D.is_sound ledger.new → upto ≤ length (D.kept ledger.old) → upto ≤ length whole.new.history) }
     ensures drafts { D.is_sound ledger.new → D.drafts ledger.new ≡ D.drafts ledger.old }
     ensures stays { Stays D.DraftLedger ledger.old ledger.new }
 {

@@ -23,7 +23,7 @@ returns g c =
     let st : Stays g.D.DraftLedger c.args.ledger.now c.read.new.self = record { same = c.read.ensures.same; sound = c.read.ensures.sound; first = c.read.ensures.first; crash = λ k rs can. inl (c.read.ensures.crash k rs can) } in
     let on = drafts_more g.D.DraftLedger c.args.ledger.now c.read.new.self c.follow_with.new.ledger c.args.f.now c.follow_with.new.f c.in_ok-records.records.items FOLLOWED st c.follow_with.ensures.stays c.read.ensures.drafts c.in_ok-records.ensures.read
     (λ s content is i. c.in_ok-follow_with.ensures.followed s content (c.deref.ensures.value ∙ is) i)
-    c.in_ok-follow_with.ensures.put in
+    c.in_ok-follow_with.ensures.put c.follow_with.ensures.from in
     record {
       drafts = on;
       all = λ is k.

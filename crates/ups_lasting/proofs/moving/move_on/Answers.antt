@@ -1,5 +1,5 @@
 use Rattle.std.proofs.Common.{subst}
-use Rattle.ups_lasting.specs.Stages.{Agrees}
+use Rattle.ups_lasting.specs.Stages.{Agrees, Covers}
 use Rattle.ups_lasting.specs.declared.stage.Stage.{Stage}
 use Rattle.ups_lasting.proofs.Slices.{if_ok}
 use Rattle.ups_lasting.proofs.moving.move_on.Goals as goal
@@ -34,3 +34,18 @@ returns-in-Finishing-clause-agrees g c =
     if_ok _ _ c.finish_next.result
     (λ next p k a. p k s (subst (λ (x : Stage). Agrees s x (g.D.DraftLedger.kept c.args.ledger.now) (g.D.DraftLedger.drafts c.args.ledger.now)) c.in-Finishing.is a))
     c.finish_next.ensures.agrees
+
+pub returns-in-Clearing-clause-covers : goal.returns-in-Clearing-clause-covers
+returns-in-Clearing-clause-covers g c = if_ok _ _ c.clear.result (λ next p k a. p c.args.upto (subst (λ (x : Stage). Covers c.args.upto x (g.D.DraftLedger.kept c.args.ledger.now)) c.in-Clearing.is a)) c.clear.ensures.covers
+
+pub returns-in-Surveying-clause-covers : goal.returns-in-Surveying-clause-covers
+returns-in-Surveying-clause-covers g c = if_ok _ _ c.survey_next.result (λ next p k a. p k (subst (λ (x : Stage). Covers c.args.upto x (g.D.DraftLedger.kept c.args.ledger.now)) c.in-Surveying.is a)) c.survey_next.ensures.covers
+
+pub returns-in-Sorting-clause-covers : goal.returns-in-Sorting-clause-covers
+returns-in-Sorting-clause-covers g c = if_ok _ _ c.sort_next.result (λ next p k a. p c.args.upto (g.D.DraftLedger.kept c.args.ledger.now) (subst (λ (x : Stage). Covers c.args.upto x (g.D.DraftLedger.kept c.args.ledger.now)) c.in-Sorting.is a)) c.sort_next.ensures.covers
+
+pub returns-in-Carrying-clause-covers : goal.returns-in-Carrying-clause-covers
+returns-in-Carrying-clause-covers g c = if_ok _ _ c.carry_next.result (λ next p k a. p c.args.upto (subst (λ (x : Stage). Covers c.args.upto x (g.D.DraftLedger.kept c.args.ledger.now)) c.in-Carrying.is a)) c.carry_next.ensures.covers
+
+pub returns-in-Finishing-clause-covers : goal.returns-in-Finishing-clause-covers
+returns-in-Finishing-clause-covers g c = if_ok _ _ c.finish_next.result (λ next p k a. p c.args.upto (subst (λ (x : Stage). Covers c.args.upto x (g.D.DraftLedger.kept c.args.ledger.now)) c.in-Finishing.is a)) c.finish_next.ensures.covers

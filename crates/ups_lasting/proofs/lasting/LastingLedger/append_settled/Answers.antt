@@ -5,9 +5,12 @@ use Rattle.ups_compact.specs.Shifts.{less_by}
 use Rattle.ups_restore.specs.Lessening.{lessened}
 use Rattle.ups_lasting.specs.Doubting.{is_exchange}
 use Rattle.ups_lasting.specs.Leaving.{LeavesOfLog, LeavesStanding}
+use Rattle.ups_lasting.specs.Stages.{Covers}
 use Rattle.ups_lasting.specs.Standing.{StandsForLog}
 use Rattle.ups_lasting.proofs.Appending.{crash_failed}
 use Rattle.ups_lasting.proofs.GoingOn.{agreed_appended, agreed_same, left_appended, left_failed, left_shut, stands_appended}
+use Rattle.ups_lasting.proofs.Stages.{covers_on}
+use Rattle.ups_lasting.proofs.Turning.{covers_same}
 use Rattle.ups_lasting.proofs.lasting.LastingLedger.append_settled.Goals as goal
 
 pub invariant_of-self-in-Ok-clause-stands : goal.invariant_of-self-in-Ok-clause-stands
@@ -75,3 +78,19 @@ returns-then-was_up-clause-crash g c = λ first rs leaves.
     let are : c.grow-then-was_up.new.self ≡ c.args.records.now = c.grow-then-was_up.ensures ∙ ap (λ (xs : List (Record Global)). xs ++ c.args.records.now) c.none-then-was_up.ensures in
     crash_failed g.D.DraftLedger l.ledger c.append_less.new.ledger l.content l.log l.tried c.grow-then-was_up.new.self less (is_exchange l.doubt) c.args.records.now l.now (c.is_up-was_up.ensures.up c.if-was_up.true) c.in-Err.ensures.0 are first rs
     (subst (λ (xs : List (Record Global)). LeavesOfLog g.D.DraftLedger c.append_less.new.ledger xs l.log c.grow-then-was_up.new.self less false rs) c.in-Err.ensures.1 leaves)
+
+pub invariant_of-self-in-Ok-clause-covers : goal.invariant_of-self-in-Ok-clause-covers
+invariant_of-self-in-Ok-clause-covers g c = λ k.
+    let l = c.args.self.now in
+    subst (λ (rs : List (Record Global)). Covers l.compaction.begun l.compaction.stage rs) (sym (c.in-Ok.ensures.0.put k))
+    (covers_on l.compaction.begun l.compaction.stage (g.D.DraftLedger.kept l.ledger) (map (lessened (less_by l.shifts)) c.args.records.now) (l.covers (c.in-Ok.ensures.0.sound k)))
+
+pub invariant_of-self-then-was_up-clause-covers : goal.invariant_of-self-then-was_up-clause-covers
+invariant_of-self-then-was_up-clause-covers g c =
+    let l = c.args.self.now in
+    covers_same g.D.DraftLedger l.compaction.empty.settings l.compaction.begun l.ledger c.append_less.new.ledger l.compaction.stage c.in-Err.ensures.0.sound c.in-Err.ensures.0.same l.covers
+
+pub invariant_of-self-else-was_up-clause-covers : goal.invariant_of-self-else-was_up-clause-covers
+invariant_of-self-else-was_up-clause-covers g c =
+    let l = c.args.self.now in
+    covers_same g.D.DraftLedger l.compaction.empty.settings l.compaction.begun l.ledger c.append_less.new.ledger l.compaction.stage c.in-Err.ensures.0.sound c.in-Err.ensures.0.same l.covers

@@ -4,7 +4,7 @@ use Rattle.ups_journal.specs.declared.record.Record.{Record}
 use Rattle.ups_compact.specs.Shifts.{less_by}
 use Rattle.ups_lasting.specs.Standing.{StandsForLog}
 use Rattle.ups_lasting.proofs.GoingOn.{some_stands}
-use Rattle.ups_lasting.proofs.Turning.{agreed_resting}
+use Rattle.ups_lasting.proofs.Turning.{agreed_resting, covers_resting}
 use Rattle.ups_lasting.proofs.lasting.LastingLedger.over.Goals as goal
 
 pub invariant_of-result-clause-stands : goal.invariant_of-result-clause-stands
@@ -20,4 +20,7 @@ invariant_of-result-clause-left g c = λ first found can.
     ∣ (c.of.result, inl (is ∙ sym c.of-2.ensures, refl), some_stands s found c.of.result c.of.result less (is ∙ sym c.of.ensures) (c.what_stands_for_a_log_goes_on.ensures.itself s c.of.result less c.none.ensures.less)) ∣₁
 
 pub invariant_of-result-clause-agrees : goal.invariant_of-result-clause-agrees
-invariant_of-result-clause-agrees g c = agreed_resting g.D.DraftLedger c.new.result.empty.settings c.args.ledger c.args.ledger c.new.result.stage c.new.ensures.stage
+invariant_of-result-clause-agrees g c = agreed_resting g.D.DraftLedger c.new.result.empty.settings c.new.result.begun c.args.ledger c.args.ledger c.new.result.stage c.new.ensures.stage
+
+pub invariant_of-result-clause-covers : goal.invariant_of-result-clause-covers
+invariant_of-result-clause-covers g c = covers_resting g.D.DraftLedger c.new.result.empty.settings c.new.result.begun c.args.ledger c.args.ledger c.new.result.stage c.new.ensures.stage
