@@ -17,7 +17,7 @@ use ups_args::{ArgumentFault, command};
 use ups_ledger::Keeper;
 use ups_life::Entry;
 use ups_manager::Manager;
-use ups_server::{ClosedServer, RanServer, serve_words};
+use ups_server::{ClosedServer, NoBook, RanServer, serve_words};
 use ups_transport::Network;
 use ups_turn::Pass;
 
@@ -45,7 +45,7 @@ where
     R: Threads + Wait + Clock + Log + Sync + AllocGlobal + Print + Eprint + Network,
 {
     let stores = MemoryStores::new(rt.alloc());
-    match serve_words(rt, &stores, matches, associations, rounds) {
+    match serve_words(rt, &stores, NoBook, matches, associations, rounds) {
         Ok(Some(server)) => tell_left(rt, rt.alloc(), server),
         Ok(None) => Err(no_words()),
         Err(fault) => Err(error_of(fault)),

@@ -5,6 +5,7 @@
 //! was read. No contract covers time limits or the start of a round.
 #![tactic(auto)]
 
+mod address_book;
 mod bell;
 mod clock;
 mod committer;
@@ -13,6 +14,7 @@ mod delivering;
 mod giving_up;
 mod inspected;
 mod monitor;
+mod moving;
 mod numbers;
 mod options;
 mod publisher;
@@ -26,6 +28,7 @@ mod sweeping;
 mod tender;
 mod workers;
 
+pub use address_book::{AddressBook, NoBook};
 pub use clock::HostClock;
 pub use delivering::deliver_rounds;
 pub use options::{MetricsFile, ServerOptions};

@@ -6,10 +6,11 @@ ghost use Rattle.ups_net.specs.Sharing.{may_take};
 
 use crate::bell::Bell;
 use std::alloc::{AllocError, Global};
-use std::sync::Wait;
 use std::sync::atomic::{AtomicU64, Ordering};
+use std::sync::{Mutex, Wait};
 use std::time::Clock;
 use ups_log::{UnloggedDeliveries, moment_of};
+use ups_peers::{Watcher, WatcherAddress};
 
 /// The maximum number of seconds for which a watcher is passed over.
 const LONGEST: u64 = 60;
@@ -80,9 +81,13 @@ pub fn may_take(share: Share, is_quick: bool) -> bool
     }
 }
 
-/// Whether a watcher is away, by how its deliveries ended, and whether a deliverer has it. Only the deliverer that has
-/// it writes `pause`, `failed` and `slow`.
+/// Where a watcher listens, whether it is away, by how its deliveries ended, and whether a deliverer has it. Only the
+/// deliverer that has it writes `pause`, `failed` and `slow`, and only the sweeper writes `address`.
 pub(crate) struct Presence {
+    /// Where it listens; None if it is retired.
+    address: Mutex<Option<WatcherAddress>>,
+    /// 1 if it listens elsewhere since a deliverer last asked where, else 0.
+    moved: AtomicU64,
     /// Whether a deliverer has it.
     holder: AtomicU64,
     /// The number of seconds for which it is passed over after its last failure; 0 while it isn't away.
@@ -106,6 +111,8 @@ pub(crate) struct Presence {
 impl Drop for Presence {
     fn drop(self) {
         let Presence {
+            address: _,
+            moved: _,
             holder: _,
             pause: _,
             failed: _,
@@ -120,9 +127,12 @@ impl Drop for Presence {
 }
 
 impl Presence {
-    /// Creates the presence of a watcher that has not failed yet, and that no deliverer has.
-    fn new() -> Presence {
+    /// Creates the presence of a watcher that listens at an address or is retired, that has not failed yet, and that no
+    /// deliverer has.
+    fn new(address: Option<WatcherAddress>) -> Presence {
         Presence {
+            address: Mutex::new(address),
+            moved: AtomicU64::new(0),
             holder: AtomicU64::new(FREE),
             pause: AtomicU64::new(0),
             failed: AtomicU64::new(0),
@@ -133,6 +143,37 @@ impl Presence {
             untold: AtomicU64::new(0),
             unlogged: UnloggedDeliveries::new(),
         }
+    }
+
+    /// Returns where the watcher listens, for the deliverer that has it, or None if it is retired. If it listens elsewhere
+    /// than before, the time for which it is passed over begins anew.
+    ///
+    /// Errors: lack of memory.
+    pub(crate) fn address<R: Wait>(&self, rt: &R) -> Result<Option<WatcherAddress>, AllocError> {
+        if self.moved.swap(0, Ordering::SeqCst) == 1 {
+            let pause = self.pause.load(Ordering::SeqCst);
+            self.pause.store(pause.min(1), Ordering::SeqCst);
+        }
+        self.address.lock(rt).clone()
+    }
+
+    /// Notes that the watcher listens at this address from now on, so that it is tried there at once. Returns whether it
+    /// listened elsewhere; false also if it is retired, since it stays so.
+    ///
+    /// Errors: lack of memory.
+    pub(crate) fn move_to<R: Wait>(
+        &self,
+        rt: &R,
+        address: &WatcherAddress,
+    ) -> Result<bool, AllocError> {
+        let mut place = self.address.lock(rt);
+        match &*place {
+            Some(before) if before != address => {}
+            _ => return Ok(false),
+        }
+        *place = Some(address.clone()?);
+        self.moved.store(1, Ordering::SeqCst);
+        Ok(true)
     }
 
     /// Takes the watcher for one deliverer. Returns false if another has it.
@@ -166,11 +207,16 @@ impl Presence {
         !self.is_away() && self.slow.load(Ordering::SeqCst) == 0
     }
 
-    /// Returns whether a deliverer with this share delivers to the watcher now.
-    pub(crate) fn is_due<R: Clock>(&self, rt: &R, share: Share) -> bool {
+    /// Returns whether the watcher is passed over now: it failed, and has listened at the same address since.
+    fn is_passed_over<R: Clock>(&self, rt: &R) -> bool {
         let pause = self.pause.load(Ordering::SeqCst);
         let failed = self.failed.load(Ordering::SeqCst);
-        may_take(share, self.is_quick()) && !is_passed_over(failed, pause, moment_of(rt))
+        self.moved.load(Ordering::SeqCst) == 0 && is_passed_over(failed, pause, moment_of(rt))
+    }
+
+    /// Returns whether a deliverer with this share delivers to the watcher now.
+    pub(crate) fn is_due<R: Clock>(&self, rt: &R, share: Share) -> bool {
+        may_take(share, self.is_quick()) && !self.is_passed_over(rt)
     }
 
     /// Notes that a delivery to the watcher failed, and returns whether it goes away by that.
@@ -270,19 +316,19 @@ impl Drop for Roster {
 }
 
 impl Roster {
-    /// Creates the roster of `watchers` watchers, none of which is away, for `deliverers` deliverers.
+    /// Creates the roster of these watchers, none of which is away, for `deliverers` deliverers.
     ///
     /// # Errors
     ///
     /// If memory runs out.
-    pub fn new(alloc: Global, watchers: usize, deliverers: u32) -> Result<Roster, AllocError> {
-        let mut presences = Vec::with_capacity(alloc, watchers)?;
-        for _ in 0..watchers {
-            presences.push(Presence::new())?;
+    pub fn new(alloc: Global, watchers: &[Watcher], deliverers: u32) -> Result<Roster, AllocError> {
+        let mut presences = Vec::with_capacity(alloc, watchers.len())?;
+        for watcher in watchers {
+            presences.push(Presence::new(watcher.address.clone()?))?;
         }
         Ok(Roster {
             presences,
-            other: Presence::new(),
+            other: Presence::new(None),
             deliverers,
             quick: Bell::new(),
             all: Bell::new(),

@@ -4,6 +4,7 @@ use crate::roster::Roster;
 use std::alloc::{AllocError, Global};
 use ups_ledger::{Commits, Keeping};
 use ups_log::Tally;
+use ups_peers::Watcher;
 use ups_transport::Door;
 
 /// What the threads of a server share, besides its desk: the door, the roster of its watchers, the counts for its log,
@@ -27,8 +28,8 @@ impl<K: Keeping> Drop for ServerState<K> {
 }
 
 impl<K: Keeping> ServerState<K> {
-    /// Creates the state of a server with this door, for `watchers` watchers, none of which is away, and
-    /// `deliverers` deliverers. Answers and reports wait for `commits`.
+    /// Creates the state of a server with this door, for these watchers, none of which is away, and `deliverers`
+    /// deliverers. Answers and reports wait for `commits`.
     ///
     /// # Errors
     ///
@@ -36,7 +37,7 @@ impl<K: Keeping> ServerState<K> {
     pub fn new(
         alloc: Global,
         door: Door,
-        watchers: usize,
+        watchers: &[Watcher],
         deliverers: u32,
         commits: Commits<K>,
     ) -> Result<ServerState<K>, AllocError> {

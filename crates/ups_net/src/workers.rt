@@ -11,6 +11,7 @@ ghost use Rattle.ups_ledger.specs.Keeping.{KeepersGoOn};
 ghost use Rattle.ups_net.specs.Working.{EndsThread, EndThreads, Ran, seen_last};
 ghost use Rattle.ups_net.specs.declared.options.ServerOptions.{ServerOptions};
 
+use crate::address_book::AddressBook;
 use crate::delivering::deliver_rounds;
 use crate::monitor::tell_room;
 use crate::options::ServerOptions;
@@ -120,12 +121,13 @@ fn tell_begun<R: Log + Network>(rt: &R, begun: bool) {
 
 /// Sweeps if the threads begin, and returns the pass of the sweeper and the ledger. Otherwise returns both as they
 /// were.
-fn sweep_begun<M: SharedService<Global>, K: Keeping, L: Ledger, R>(
+fn sweep_begun<M: SharedService<Global>, K: Keeping, L: Ledger, R, B: AddressBook>(
     site: Site<'_, M, K, R>,
     state: &ServerState<K>,
     mut pass: Pass<M, Global>,
     begun: bool,
     keeper: Option<Keeper<L>>,
+    book: B,
 ) -> (Pass<M, Global>, Option<Keeper<L>>)
 where
     R: Threads + Wait + Clock + Log + Network,
@@ -144,7 +146,7 @@ where
         options,
         ..
     } = site;
-    let keeper = sweep(rt, state, desk, &mut pass, options, keeper);
+    let keeper = sweep(rt, state, desk, &mut pass, options, keeper, book);
     (pass, keeper)
 }
 
@@ -264,13 +266,14 @@ struct Crew<M: SharedService<Global>> {
 ///
 /// The passes come back in their order, with that of the sweeper after them. If a thread can't be started, its pass and
 /// those after it wait in `unbegun` until those before them are back. The sweeper has the ledger, if one is kept.
-fn run_threads<M: SharedService<Global> + Send, K: Keeping + Send, L: Ledger, R>(
+fn run_threads<M: SharedService<Global> + Send, K: Keeping + Send, L: Ledger, R, B: AddressBook>(
     rt: &R,
     state: &ServerState<K>,
     desk: &Desk<M, Global>,
     options: &ServerOptions,
     crew: Crew<M>,
     keeper: Option<Keeper<L>>,
+    book: B,
 ) -> (bool, Vec<Pass<M, Global>>, Option<Keeper<L>>)
 where
     R: Threads + Wait + Clock + Log + Sync + Network,
@@ -352,7 +355,7 @@ where
                 options,
                 commits: &state.commits,
             };
-            let (swept, keeper) = sweep_begun(site, state, sweeper, begun, keeper);
+            let (swept, keeper) = sweep_begun(site, state, sweeper, begun, keeper, book);
             join_all(rt, &token, handles, &mut back);
             put_back(unbegun, &mut back);
             back.push_reserved(swept);
@@ -369,15 +372,17 @@ where
 /// `options` says; if false, each is as it was, since a thread could not be started, or memory ran out before. No
 /// contract says that a thread runs, or when.
 ///
-/// If a ledger is kept, the sweeper commits what is entered. The ledger is given back: it has the beginning of the
-/// history that the sweeper's pass has seen, as far as it is committed, if it had before.
-pub fn run<M: SharedService<Global> + Send, K: Keeping + Send, L: Ledger, R>(
+/// The sweeper looks into the address book for watchers that listen elsewhere. If a ledger is kept, it commits what is
+/// entered. The ledger is given back: it has the beginning of the history that the sweeper's pass has seen, as far as it
+/// is committed, if it had before.
+pub fn run<M: SharedService<Global> + Send, K: Keeping + Send, L: Ledger, R, B: AddressBook>(
     rt: &R,
     state: &ServerState<K>,
     desk: &Desk<M, Global>,
     passes: Vec<Pass<M, Global>>,
     options: &ServerOptions,
     keeper: Option<Keeper<L>>,
+    book: B,
 ) -> (bool, Vec<Pass<M, Global>>, Option<Keeper<L>>)
 where
     R: Threads + Wait + Clock + Log + Sync + Network,
@@ -406,5 +411,5 @@ where
         unbegun,
         back,
     };
-    run_threads(rt, state, desk, options, crew, keeper)
+    run_threads(rt, state, desk, options, crew, keeper, book)
 }

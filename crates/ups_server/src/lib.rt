@@ -10,3 +10,4 @@ mod telling;
 pub use checking::check_words;
 pub use opener::{StoreOpener, Unopened};
 pub use serving::{ClosedServer, RanServer, answer_network, serve_words};
+pub use ups_net::{AddressBook, NoBook};

@@ -28,7 +28,7 @@ use ups_args::{ArgumentFault, ServeArguments, VERSION, serve_arguments};
 use ups_assoc::Config;
 use ups_ledger::{Commits, Keeper, Keeping, Ledger};
 use ups_manager::Manager;
-use ups_net::{MetricsFile, ServerOptions, ServerState, run};
+use ups_net::{AddressBook, MetricsFile, ServerOptions, ServerState, run};
 use ups_peers::MAX_WORKERS;
 use ups_transport::{Door, Network};
 use ups_turn::{Desk, Pass};
@@ -264,11 +264,12 @@ fn note_steps<K: Keeping>(state: &ServerState<K>, manager: &Manager<Global>) {
 /// pass has seen: anything that follows from what a ledger has had, or if none is kept, anything.
 ///
 /// Errors: lack of memory before the threads are started.
-fn serve_kept<K: Keeping + Send, L: Ledger, R>(
+fn serve_kept<K: Keeping + Send, L: Ledger, R, B: AddressBook>(
     rt: &R,
     door: Door,
     asked: ServeArguments<'_>,
     begun: Begun<L>,
+    book: B,
     associations: u64,
     rounds: u64,
 ) -> Result<RanServer<L>, AllocError>
@@ -289,7 +290,7 @@ where
     let watchers = asked.watchers.len();
     let deliverers = deliverers_of(asked.limits.workers, watchers);
     let commits: Commits<K> = commits_of(&keeper);
-    let Ok(state) = ServerState::new(alloc, door, watchers, deliverers, commits) else {
+    let Ok(state) = ServerState::new(alloc, door, &asked.watchers, deliverers, commits) else {
         return Err(AllocError);
     };
     note_steps(&state, &manager);
@@ -301,7 +302,7 @@ where
         return Err(AllocError);
     };
     let options = options_of(alloc, asked, metrics, associations, rounds);
-    let (begun, passes, keeper) = run(rt, &state, &desk, passes, &options, keeper);
+    let (begun, passes, keeper) = run(rt, &state, &desk, passes, &options, keeper, book);
     Ok(RanServer {
         begun,
         desk,
@@ -315,11 +316,12 @@ where
 /// done its job as requested, or none has begun.
 ///
 /// Errors: lack of memory before the threads are started.
-fn serve_on<L: Ledger, R>(
+fn serve_on<L: Ledger, R, B: AddressBook>(
     rt: &R,
     door: Door,
     asked: ServeArguments<'_>,
     begun: Begun<L>,
+    book: B,
     associations: u64,
     rounds: u64,
 ) -> Result<RanServer<L>, AllocError>
@@ -333,21 +335,23 @@ where
     ensures here { IfOk result (λ server. All (λ p. p.table ≡ server.desk.table) server.passes.items) }
     ensures goes_on { IfOk result (λ server. KeepersGoOn L.Ledger begun.keeper begun.manager.history server.keeper (seen_last server.passes.items)) }
 {
-    serve_kept::<Brand, L, R>(rt, door, asked, begun, associations, rounds)
+    serve_kept::<Brand, L, R, B>(rt, door, asked, begun, book, associations, rounds)
 }
 
 /// Answers associations over TCP and delivers event reports until each worker has served `associations` associations,
-/// and the sweeper and each deliverer have made `rounds` rounds. Returns what the server leaves, whose passes are at
-/// its desk. If a store is requested, the manager begins with the requests of the store, and the ledger has the first
-/// entries of the history that the sweeper's pass has seen, as many as are committed; a crash would leave at least as
-/// many. Returns None after printing why the store was not opened, or why it can't listen.
+/// and the sweeper and each deliverer have made `rounds` rounds. The address book may name other addresses of the
+/// watchers meanwhile. Returns what the server leaves, whose passes are at its desk. If a store is requested, the manager
+/// begins with the requests of the store, and the ledger has the first entries of the history that the sweeper's pass has
+/// seen, as many as are committed; a crash would leave at least as many. Returns None after printing why the store was
+/// not opened, or why it can't listen.
 ///
 /// # Errors
 ///
 /// Lack of memory before the threads are started.
-pub fn answer_network<'a, L: Ledger, O: StoreOpener<'a, L>, R>(
+pub fn answer_network<'a, L: Ledger, O: StoreOpener<'a, L>, R, B: AddressBook>(
     rt: &R,
     opener: &O,
+    book: B,
     asked: ServeArguments<'a>,
     associations: u64,
     rounds: u64,
@@ -374,7 +378,7 @@ where
         return Ok(None);
     };
     match listen(rt, &asked) {
-        Ok(door) => Ok(Some(serve_on(rt, door, asked, begun, associations, rounds)?)),
+        Ok(door) => Ok(Some(serve_on(rt, door, asked, begun, book, associations, rounds)?)),
         Err(fault) => {
             tell_unheard(rt, asked.bind, asked.port, fault);
             Ok(None)
@@ -388,9 +392,10 @@ where
 /// # Errors
 ///
 /// Those of the words, as in [`ArgumentFault`]; Memory also if memory ran out before the threads were started.
-pub fn serve_words<'a, L: Ledger, O: StoreOpener<'a, L>, R>(
+pub fn serve_words<'a, L: Ledger, O: StoreOpener<'a, L>, R, B: AddressBook>(
     rt: &R,
     opener: &O,
+    book: B,
     matches: &ArgMatches<'a>,
     associations: u64,
     rounds: u64,
@@ -406,5 +411,5 @@ where
     if asked.check {
         return Ok(None);
     }
-    Ok(answer_network(rt, opener, asked, associations, rounds)?)
+    Ok(answer_network(rt, opener, book, asked, associations, rounds)?)
 }

@@ -8,6 +8,7 @@ ghost use Rattle.ups_life.specs.Limits.{history_limit, peer_limit};
 
 mod beside;
 mod ending;
+mod following;
 mod keeping;
 mod naming;
 mod place;
@@ -15,7 +16,7 @@ mod scripting;
 mod storing;
 
 use crate::ending::{checked_status, refuse, server_status};
-use crate::naming::with_peers;
+use crate::naming::{NamedWords, with_peers};
 use crate::scripting::answer_script;
 use crate::storing::{AskedServer, Stores, perform_compact, perform_init, server_asked};
 use clap::ArgMatches;
@@ -122,6 +123,7 @@ where
 fn perform_network<'a, R, T>(
     rt: &R,
     stores: &Stores<'a, T>,
+    named: &'a NamedWords,
     matches: &ArgMatches<'a>,
 ) -> Result<ExitStatus, AllocError>
 where
@@ -131,7 +133,8 @@ where
     if matches.get_flag("check") {
         return check_network(rt, stores, matches);
     }
-    match serve_words(rt, stores, matches, u64::MAX, u64::MAX) {
+    let book = stores.peers_file(named);
+    match serve_words(rt, stores, book, matches, u64::MAX, u64::MAX) {
         Ok(left) => server_status(left),
         Err(fault) => refuse(rt, fault),
     }
@@ -175,15 +178,20 @@ fn end_of<R: Eprint>(rt: &R, performed: Result<ExitStatus, AllocError>) -> ExitS
 
 /// Does what the command line asks, and returns how the program ends. A server has its own runtime, whose log does not
 /// keep its threads waiting.
-fn run<'a, R, S, T>(rt: &R, serving: &S, stores: &Stores<'a, T>, words: &'a [String]) -> ExitStatus
+fn run<'a, R, S, T>(
+    rt: &R,
+    serving: &S,
+    stores: &Stores<'a, T>,
+    named: &'a NamedWords,
+) -> ExitStatus
 where
     R: AllocGlobal + Input + Print + Eprint,
     S: Threads + Wait + Clock + Log + Sync + AllocGlobal + Print + Eprint + Network,
     T: Clock + Log,
 {
-    let performed = match matches_of(rt, words) {
+    let performed = match matches_of(rt, named.as_slice()) {
         Ok(Ok(matches)) => match matches.subcommand() {
-            Some(("serve", matches)) => perform_network(serving, stores, matches),
+            Some(("serve", matches)) => perform_network(serving, stores, named, matches),
             Some(("init", matches)) => perform_init(stores, matches),
             Some(("compact", matches)) => perform_compact(stores, matches),
             _ => perform(rt, &matches),
@@ -278,19 +286,19 @@ fn main(rt: HostRuntime) -> ExitCode {
         Ok(text) => text,
         Err(fault) => return ExitCode::from(end_of(&rt, Err(fault))),
     };
-    let words = match with_peers(&rt, words) {
-        Ok(Ok(words)) => words,
+    let named = match with_peers(&rt, words) {
+        Ok(Ok(named)) => named,
         Ok(Err(status)) => return ExitCode::from(status),
         Err(fault) => return ExitCode::from(end_of(&rt, Err(fault))),
     };
-    let asked = match asked_in(rt.alloc(), &words) {
+    let asked = match asked_in(rt.alloc(), named.as_slice()) {
         Ok(asked) => asked,
         Err(fault) => return ExitCode::from(end_of(&rt, Err(fault))),
     };
     let serving = Logged::new(rt, LevelFilter::Info, log);
     let telling = StartLog::new(&serving);
     let stores = Stores::new(&rt, &telling, text.as_str(), &asked);
-    let status = run(&rt, &serving, &stores, &words);
+    let status = run(&rt, &serving, &stores, &named);
     serving.flush();
     ExitCode::from(status)
 }

@@ -13,7 +13,7 @@ const MAX_SIZE: usize = 1_048_576;
 
 /// Why a file of peers is refused.
 #[derive(Clone, Copy, Debug, Error)]
-enum PeersFault {
+pub(crate) enum PeersFault {
     /// The system can't open or read it.
     #[error("it can't be read: {0}")]
     Unread(io::Error),
@@ -59,7 +59,7 @@ fn bytes_of(rt: &HostRuntime, path: &str) -> io::Result<Vec<u8>> {
 /// Returns the text of a file of peers.
 ///
 /// Errors: Unread; TooLarge; NoText; Memory.
-fn text_of(rt: &HostRuntime, path: &str) -> Result<String, PeersFault> {
+pub(crate) fn text_of(rt: &HostRuntime, path: &str) -> Result<String, PeersFault> {
     let bytes = match bytes_of(rt, path) {
         Ok(bytes) => bytes,
         Err(error) if error.kind() == ErrorKind::OutOfMemory => return Err(PeersFault::Memory),
@@ -103,16 +103,16 @@ fn path_in<'a>(alloc: Global, words: &'a [String]) -> Result<Option<&'a str>, Al
     }
 }
 
-/// Returns the words of the file that `--peers` names among the words of a command line; or returns how the program
-/// ends, after printing why the file is refused.
+/// Returns the words of the file of peers at a path, if there is one; or returns how the program ends, after printing why
+/// the file is refused.
 ///
 /// Errors: lack of memory.
 fn words_of_file(
     rt: &HostRuntime,
-    words: &[String],
+    path: Option<&str>,
 ) -> Result<Result<Vec<String>, ExitStatus>, AllocError> {
     let alloc = rt.alloc();
-    let Some(path) = path_in(alloc, words)? else {
+    let Some(path) = path else {
         return Ok(Ok(Vec::new(alloc)));
     };
     let found = match text_of(rt, path) {
@@ -151,6 +151,41 @@ fn add_words(
     words.append(&mut found)
 }
 
+/// The words of a command line, and behind them those of the file that `--peers` names.
+#[derive(Drop)]
+pub(crate) struct NamedWords {
+    words: Vec<String>,
+    /// How many of them are those of the command line.
+    own: usize,
+    /// The path of the file, if one is named.
+    path: Option<String>,
+}
+
+impl NamedWords {
+    /// Returns the words.
+    pub(crate) fn as_slice(&self) -> &[String] {
+        &self.words
+    }
+
+    /// Returns the path of the file, if one is named.
+    pub(crate) fn path(&self) -> Option<&str> {
+        self.path.as_ref().map(String::as_str)
+    }
+
+    /// Returns the words as they would be if the file had this text.
+    ///
+    /// Errors: those of `words_in`.
+    pub(crate) fn with_text(&self, alloc: Global, text: &str) -> Result<Vec<String>, PeersFault> {
+        let found = words_in(alloc, text)?;
+        let mut words = Vec::new(alloc);
+        for word in self.words.iter().take(self.own) {
+            words.push(word.clone()?)?;
+        }
+        add_words(alloc, &mut words, found)?;
+        Ok(words)
+    }
+}
+
 /// Returns the words of a command line, and behind them those of the file that `--peers` names; or returns how the
 /// program ends, after printing why the file is refused.
 ///
@@ -158,12 +193,17 @@ fn add_words(
 pub(crate) fn with_peers(
     rt: &HostRuntime,
     mut words: Vec<String>,
-) -> Result<Result<Vec<String>, ExitStatus>, AllocError> {
-    match words_of_file(rt, &words)? {
-        Ok(found) => {
-            add_words(rt.alloc(), &mut words, found)?;
-            Ok(Ok(words))
-        }
-        Err(status) => Ok(Err(status)),
-    }
+) -> Result<Result<NamedWords, ExitStatus>, AllocError> {
+    let alloc = rt.alloc();
+    let path = match path_in(alloc, &words)? {
+        Some(path) => Some(path.to_string(alloc)?),
+        None => None,
+    };
+    let found = match words_of_file(rt, path.as_ref().map(String::as_str))? {
+        Ok(found) => found,
+        Err(status) => return Ok(Err(status)),
+    };
+    let own = words.len();
+    add_words(alloc, &mut words, found)?;
+    Ok(Ok(NamedWords { words, own, path }))
 }

@@ -8,7 +8,9 @@ ghost use Rattle.upsd.specs.Storing.{compaction_settings};
 
 use crate::beside::{BesideFault, read_beside, write_beside};
 use crate::ending::{ExitStatus, refuse};
+use crate::following::PeersFile;
 use crate::keeping::{ServerLedger, ServerNaming};
+use crate::naming::NamedWords;
 use crate::place::{AnyContents, ServerPlace};
 use clap::ArgMatches;
 use log::{Log, info, warn};
@@ -42,6 +44,12 @@ pub(crate) struct Stores<'a, R: Clock + Log> {
 }
 
 impl<'a, R: Clock + Log> Stores<'a, R> {
+    /// Returns the file of peers that is named by the words of the command line, and logs what it says where the reading of
+    /// stores is logged.
+    pub(crate) fn peers_file(&self, named: &'a NamedWords) -> PeersFile<'a, R> {
+        PeersFile::new(self.rt, self.telling, named)
+    }
+
     /// Returns the stores of a run of the program that begins now, with these words on its command line, and what they ask
     /// for, and a log for the reading of stores.
     pub(crate) fn new(
