@@ -33,6 +33,7 @@ import functools
 import glob
 import importlib
 import os
+import pathlib
 import re
 import shlex
 import sys
@@ -112,8 +113,7 @@ def texts() -> Texts:
     forms += [KINDS_FILE, *(f"crates/{it}/src/**/*.rt" for it in crates)]
     found = {}
     for path in sorted(path for form in forms for path in glob.glob(form, root_dir=HERE, recursive=True)):
-        with open(os.path.join(HERE, path), encoding="utf-8") as opened:
-            found[path] = opened.read()
+        found[path] = pathlib.Path(os.path.join(HERE, path)).read_text(encoding="utf-8")
     return found
 
 
@@ -279,8 +279,7 @@ def commands_of(client: tuple[tuple[str, str], ...]) -> dict[str, set[str]]:
     with tempfile.TemporaryDirectory() as folder, mock.patch.object(sys, "path", [folder, *sys.path]):
         os.mkdir(os.path.join(folder, "ups"))
         for path, text in client:
-            with open(os.path.join(folder, "ups", os.path.basename(path)), "w", encoding="utf-8") as module:
-                module.write(text)
+            pathlib.Path(os.path.join(folder, "ups", os.path.basename(path))).write_text(text, encoding="utf-8")
         with mock.patch.dict(sys.modules, stubs), mock.patch.dict(os.environ, clear=True):
             parser = importlib.import_module("ups.command_line").parser()
     found = {it.name: {name for option in it.options for name in option.names} for it in commands_of_parser(parser)}

@@ -39,7 +39,7 @@ import sys
 import time
 from collections.abc import Iterator, Mapping, Sequence
 from subprocess import TimeoutExpired
-from typing import Any, Optional, Protocol
+from typing import Any, Generic, Optional, Protocol, TypeVar
 
 sys.path.insert(0, os.path.join(os.path.dirname(os.path.dirname(os.path.abspath(__file__))), "check/lib"))
 import courses
@@ -60,6 +60,8 @@ WAIT = 30  # seconds for all watchers
 GIVEN: dict[str, Any] = {"every": 7}  # what the command line sets
 Outcome = tuple[dict[str, int], list[str]]  # how many failures were tried, by kind, and those with an unexpected outcome
 Way = tuple[int, str]  # the place where the answer of a watcher ends, and how
+Tried = TypeVar("Tried", courses.Course, rows.Session, rows.Script)
+Self = TypeVar("Self", bound="Trial[Any]")
 
 
 class Task(Protocol):
@@ -108,42 +110,40 @@ def places(length: int, ends: list[int]) -> list[int]:
     return [it for it in range(length + 1) if it in near or it % GIVEN["every"] == 0]
 
 
-class Memory:
+class Trial(Generic[Tried]):
+    """What is tried with an association, a script or a course."""
+
+    program = "upsd"
+
+    def __init__(self, what: Tried) -> None:
+        self.what: Tried = what
+        self.name: str = what.name
+
+    def spoiled(self: Self) -> Self:
+        """Returns the same with another expected outcome."""
+        return type(self)(self.what.spoiled()[0])
+
+
+class Memory(Trial[courses.Course]):
     """The growths of memory in a course."""
 
     program = "refusals"
 
-    def __init__(self, course: courses.Course) -> None:
-        self.course, self.name = course, course.name
-
-    def spoiled(self) -> Memory:
-        """Returns the same with another expected outcome."""
-        return Memory(self.course.spoiled()[0])
-
     def tried(self, program: str) -> Outcome:
         """Refuses each, and returns how many there are, and the unexpected outcome."""
         try:
-            count, _ = self.course.failures(program)
+            count, _ = self.what.failures(program)
             return {"growths of memory refused": count}, []
         except (courses.Fault, ValueError) as fault:
             return {}, [str(fault)]
 
 
-class Ends:
+class Ends(Trial[rows.Session]):
     """The places where the input of an association ends."""
-
-    program = "upsd"
-
-    def __init__(self, session: rows.Session) -> None:
-        self.session, self.name = session, session.name
-
-    def spoiled(self) -> Ends:
-        """Returns the same with another expected answer."""
-        return Ends(self.session.spoiled()[0])
 
     def tried(self, program: str) -> Outcome:
         """Ends the input at each, and returns how many there are, and the unexpected outcomes."""
-        asked, ends = self.session.asked, ends_of(self.session.asked)
+        asked, ends = self.what.asked, ends_of(self.what.asked)
         tried, due = places(len(asked), ends), b""
         faults: list[str] = []
         for place in tried:
@@ -158,9 +158,9 @@ class Ends:
 
     def unlike(self, place: int, is_end: bool, due: bytes, answer: bytes, ended: tuple[int, bytes]) -> Optional[str]:
         """Returns how the outcome of an end differs from the expected one; None if it does not."""
-        whole = self.session.answered
+        whole = self.what.answered
         is_over = answer == whole and rows.ended_of(runs.Ran(ended[0], answer, ended[1])) == self.ended()
-        if place == len(self.session.asked) or is_over:
+        if place == len(self.what.asked) or is_over:
             return None if is_over else f"it answers {answer!r} and ends as {ended}"
         if answer != due or not whole.startswith(answer) or len(answer) not in ends_of(whole):
             return f"it answers {answer!r} and not {due!r}"
@@ -168,7 +168,7 @@ class Ends:
 
     def ended(self) -> str:
         """Returns how the whole association ends, as far as the program reports it."""
-        return "Ok" if self.session.ended.startswith("Ok") else self.session.ended
+        return "Ok" if self.what.ended.startswith("Ok") else self.what.ended
 
 
 class Rooms:
@@ -194,47 +194,29 @@ class Rooms:
         return {"bytes of room for an output": len(tried)}, faults
 
 
-class Shaken:
+class Shaken(Trial[rows.Session]):
     """An association in which each byte comes and leaves on its own, with a signal that interrupts the call."""
-
-    program = "upsd"
-
-    def __init__(self, session: rows.Session) -> None:
-        self.session, self.name = session, session.name
-
-    def spoiled(self) -> Shaken:
-        """Returns the same with another expected answer."""
-        return Shaken(self.session.spoiled()[0])
 
     def tried(self, program: str) -> Outcome:
         """Shakes it, and returns how many bytes there are, and the unexpected outcome."""
-        ran = runs.run_shaken([program, "pipe", "--ae", "UPSD"], self.session.asked)
-        count = len(self.session.asked) + len(self.session.answered)
-        is_due = ran.output == self.session.answered and rows.ended_of(ran) == Ends(self.session).ended()
+        ran = runs.run_shaken([program, "pipe", "--ae", "UPSD"], self.what.asked)
+        count = len(self.what.asked) + len(self.what.answered)
+        is_due = ran.output == self.what.answered and rows.ended_of(ran) == Ends(self.what).ended()
         return {"bytes that come or go by themselves": count}, [] if is_due else [f"it is shaken: {ran}"]
 
 
-class Breaks:
+class Breaks(Trial[rows.Script]):
     """The places where the input of a script breaks off."""
-
-    program = "upsd"
-
-    def __init__(self, script: rows.Script) -> None:
-        self.script, self.name = script, script.name
-
-    def spoiled(self) -> Breaks:
-        """Returns the same with other expected replies."""
-        return Breaks(self.script.spoiled()[0])
 
     def tried(self, program: str) -> Outcome:
         """Breaks it off at each, and returns how many there are, and the unexpected outcomes."""
-        given, replies = self.script.script.encode(), self.script.replies.encode().splitlines(keepends=True)
+        given, replies = self.what.script.encode(), self.what.replies.encode().splitlines(keepends=True)
         tried = range(0, len(given), GIVEN["every"])
         faults: list[str] = []
         for place in tried:
             due = b"".join(replies[:given[:place].count(b"\n")])
             with runs.broken(given[:place]) as source:
-                ran = runs.run([program, *self.script.words], source=source)
+                ran = runs.run([program, *self.what.words], source=source)
             if (ran.status, ran.said) != BROKEN or ran.output != due:
                 faults.append(f"broken off at {place}: {ran}")
         return {"places where a script breaks off": len(tried)}, faults

@@ -87,6 +87,7 @@ from typing import Optional, Protocol, Union
 sys.path.insert(0, os.path.join(os.path.dirname(os.path.dirname(os.path.abspath(__file__))), "check/lib"))
 import courses
 import dicom
+import results
 import runs
 import services
 from machine import described
@@ -495,15 +496,11 @@ def main() -> None:
     given = asked.parse_args()
     programs = {it: os.path.abspath(vars(given)[it]) for it in ("readings", "refusals")}
     programs["upsd"] = os.path.abspath(given.program)
-    passed, failed = 0, 0
+    counts = results.Results(tells_passed=False)
     for file in given.files:
         for row in examples_of(file) if os.path.isdir(file) else rows_of(file):
-            why = fault_of(programs[row.program], row, given.self_test)
-            passed, failed = passed + (why is None), failed + (why is not None)
-            if why:
-                print(f"{file}: {row.name}: {why}")
-    print(f"{passed} passed, {failed} failed")
-    sys.exit(1 if failed else 0)
+            counts.tell(f"{file}: {row.name}", fault_of(programs[row.program], row, given.self_test))
+    counts.end()
 
 
 if __name__ == "__main__":

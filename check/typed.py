@@ -12,6 +12,7 @@ from __future__ import annotations
 
 import argparse
 import os
+import pathlib
 import shutil
 import subprocess
 import sys
@@ -62,11 +63,9 @@ def self_test() -> int:
 
 
 def spoil(path: str, old: str, new: str) -> None:
-    with open(path, encoding="utf-8") as it:
-        text = it.read()
+    text = pathlib.Path(path).read_text(encoding="utf-8")
     assert text.count(old) == 1, f"{path} lacks {old!r}"
-    with open(path, "w", encoding="utf-8") as it:
-        it.write(text.replace(old, new))
+    pathlib.Path(path).write_text(text.replace(old, new), encoding="utf-8")
 
 
 def main() -> int:

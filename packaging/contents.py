@@ -16,14 +16,13 @@ import argparse
 import glob
 import hashlib
 import importlib
-import importlib.machinery
-import importlib.util
 import os
+import pathlib
 import re
+import runpy
 import subprocess
 import sys
 import time
-from types import ModuleType
 from typing import Optional
 
 import pages
@@ -39,8 +38,7 @@ Files = dict[str, tuple[bytes, int]]  # content and mode, by the path in the pac
 
 
 def read(path: str) -> str:
-    with open(os.path.join(HERE, path), encoding="utf-8") as opened:
-        return opened.read()
+    return pathlib.Path(os.path.join(HERE, path)).read_text(encoding="utf-8")
 
 
 def version() -> str:
@@ -51,16 +49,6 @@ def version() -> str:
 
 def run(*words: str, given: Optional[str] = None) -> str:
     return subprocess.run(words, check=True, capture_output=True, text=True, input=given, cwd=HERE).stdout
-
-
-def module_of(name: str, path: str) -> ModuleType:
-    """Returns a program in Python as a module."""
-    loader = importlib.machinery.SourceFileLoader(name, os.path.join(HERE, path))
-    spec = importlib.util.spec_from_loader(name, loader)
-    assert spec
-    module = importlib.util.module_from_spec(spec)
-    loader.exec_module(module)
-    return module
 
 
 # the server
@@ -123,7 +111,7 @@ def files_of_server(program: str, commit: str, day: str) -> Files:
     if version() not in (said := run(program, "--version")):
         sys.exit(f"packaging: the program is {said.strip()}, and the sources are {version()}")
     names = re.findall(r"(?m)^  (\w+) +(?!Print| )", run(program, "--help").partition("Commands:")[2].partition("Options:")[0])
-    backup = module_of("upsd-backup", "packaging/upsd-backup").parser()
+    backup = runpy.run_path(os.path.join(HERE, "packaging/upsd-backup"))["parser"]()
     return {**programs(program, commit), **manual_of_server(day), **documents(),
             **completions("upsd", pages.commands_of_help({it: run(program, it, "--help") for it in names})),
             **manual_of_parser(backup, "8", "backups of the store of upsd", day), **completions("upsd-backup", pages.commands_of_parser(backup))}
@@ -168,8 +156,7 @@ def write(files: Files, folder: str) -> None:
     for path, (content, mode) in files.items():
         target = os.path.join(HERE, folder, path)
         os.makedirs(os.path.dirname(target), exist_ok=True)
-        with open(target, "wb") as opened:
-            opened.write(content)
+        pathlib.Path(target).write_bytes(content)
         os.chmod(target, mode)
 
 

@@ -19,6 +19,7 @@ from __future__ import annotations
 import argparse
 import contextlib
 import os
+import pathlib
 import pwd
 import re
 import shutil
@@ -58,8 +59,7 @@ class Place:
     def copying(self, lines: str) -> Iterator[None]:
         """Lets `cp` run these lines of shell, in which $last is the target, until it is left."""
         path = os.path.join(self.commands, "cp")
-        with open(path, "w", encoding="utf-8") as opened:
-            opened.write(f'#!/bin/sh\nfor last; do :; done\n{lines}\n')
+        pathlib.Path(path).write_text(f'#!/bin/sh\nfor last; do :; done\n{lines}\n', encoding="utf-8")
         os.chmod(path, 0o755)
         try:
             yield
@@ -222,8 +222,7 @@ def run_faults(place: Place, folder: str, results: Results) -> None:
 def as_program(place: Place, lines: str) -> Iterator[None]:
     """Lets these lines of shell be the program of checks until it is left."""
     path, was = os.path.join(place.commands, "program"), place.program
-    with open(path, "w", encoding="utf-8") as opened:
-        opened.write(f"#!/bin/sh\n{lines}\n")
+    pathlib.Path(path).write_text(f"#!/bin/sh\n{lines}\n", encoding="utf-8")
     os.chmod(path, 0o755)
     place.program = [path]
     try:
@@ -273,8 +272,7 @@ def run_other(place: Place, folder: str, results: Results) -> None:
     os.mkdir(home, 0o700)
     store = os.path.join(home, "store")
     make_store(place.program, store)
-    with open(secret, "wb") as opened:
-        opened.write(SECRET)
+    pathlib.Path(secret).write_bytes(SECRET)
     os.chmod(secret, 0o600)
     for it in (home, store, store + "-wal"):
         if os.path.exists(it):
@@ -313,8 +311,7 @@ def run_other(place: Place, folder: str, results: Results) -> None:
 
 
 def read_bytes(path: str) -> bytes:
-    with open(path, "rb") as opened:
-        return opened.read()
+    return pathlib.Path(path).read_bytes()
 
 
 def ended_by_signal(place: Place, server: Stored) -> Optional[str]:

@@ -37,6 +37,7 @@ import contextlib
 import importlib.util
 import json
 import os
+import pathlib
 import re
 import shutil
 import signal
@@ -54,7 +55,7 @@ from typing import Any, Iterator, Optional
 sys.path.insert(0, os.path.join(os.path.dirname(os.path.dirname(os.path.abspath(__file__))), "check/lib"))
 import dicom
 import stock
-from machine import HERE, described, free_port, holds, install, listens
+from machine import HERE, described, free_port, holds, install, listens, source
 from peer import PUSH_ON, Peer, a_step
 from results import Results
 from server import Server
@@ -157,8 +158,7 @@ class Browser:
 
     def picture(self, path: str) -> None:
         """Takes a picture of the page, with 128 colors if Pillow is installed."""
-        with open(path, "wb") as file:
-            file.write(base64.b64decode(self.ask("Page.captureScreenshot", format="png")["data"]))
+        pathlib.Path(path).write_bytes(base64.b64decode(self.ask("Page.captureScreenshot", format="png")["data"]))
         if importlib.util.find_spec("PIL"):  # Debian's python3-pil
             from PIL import Image
             Image.open(path).convert("RGB").quantize(128).save(path, optimize=True)
@@ -437,8 +437,7 @@ def try_elsewhere(board: Board, results: Results) -> None:
 
 def proxied(folder: str, board_port: int, port: int) -> str:
     """Returns the configuration of docs/use/operating.md for nginx, with the files of a folder and these ports."""
-    with open(os.path.join(HERE, "docs/use/operating.md"), encoding="utf-8") as page:
-        server = re.search(r"(?ms)^```nginx\n(.*?)^```$", page.read())
+    server = re.search(r"(?ms)^```nginx\n(.*?)^```$", source("docs/use/operating.md"))
     assert server, "docs/use/operating.md has no configuration of nginx"
     text = server[1].replace("/etc/nginx/", f"{folder}/").replace("listen 443 ssl", f"listen 127.0.0.1:{port} ssl")
     text = text.replace("127.0.0.1:8080", f"127.0.0.1:{board_port}")
@@ -455,8 +454,7 @@ def proxy(folder: str, board: Board, port: int) -> Iterator[None]:
     word = subprocess.run(["openssl", "passwd", "-apr1", "secret"], check=True, capture_output=True, text=True).stdout
     for name, text in (("board.users", f"reader:{word}"), ("board.token", f'proxy_set_header Authorization "Bearer {board.token}";\n'),
                        ("nginx.conf", proxied(folder, board.port, port))):
-        with open(os.path.join(folder, name), "w", encoding="utf-8") as file:
-            file.write(text)
+        pathlib.Path(os.path.join(folder, name)).write_text(text, encoding="utf-8")
     nginx = shutil.which("nginx") or "/usr/sbin/nginx"
     with subprocess.Popen([nginx, "-p", folder, "-c", f"{folder}/nginx.conf"], stderr=subprocess.PIPE, text=True) as process:
         try:
@@ -473,8 +471,7 @@ def try_proxy(port: int, listen: int, results: Results) -> None:
     origin = f"https://127.0.0.1:{entry}"
     with tempfile.TemporaryDirectory() as folder:
         path, token = os.path.join(folder, "token"), "a-token-of-a-trial-in-a-file"
-        with open(path, "w", encoding="utf-8") as file:
-            file.write(token + "\n")
+        pathlib.Path(path).write_text(token + "\n", encoding="utf-8")
         board = Board(port, listen, "--origin", origin, "--token-file", path, place=(entry, token))
         try:
             with proxy(folder, board, entry):

@@ -37,6 +37,7 @@ import dataclasses
 import datetime
 import json
 import os
+import pathlib
 import re
 import resource
 import signal
@@ -56,7 +57,7 @@ TOP = os.path.dirname(os.path.dirname(os.path.abspath(__file__)))
 sys.path[:0] = [os.path.join(TOP, it) for it in ("check/lib", "trials/lib")]
 import stock
 import strangers
-from machine import HERE, described, free_port, holds, install
+from machine import HERE, described, free_port, holds, install, source
 from results import Results
 from server import Server
 from stock import DONE, GLOBAL, NO_ANSWER, OWN, PERFORMED, REFUSED, STEP, Watcher, made, open_association, plain
@@ -260,8 +261,7 @@ def judge(results: Results, folder: str, cases: list[Case], *words: str) -> None
 
 def of_dicom(folder: str, case: Case, *words: str) -> Optional[str]:
     path = os.path.join(folder, "step.dcm")
-    with open(path, "wb") as file:
-        file.write(stock.spelled(made(sent(case.given)), stock.EXPLICIT))
+    pathlib.Path(path).write_bytes(stock.spelled(made(sent(case.given)), stock.EXPLICIT))
     ran = run("check", path, *words)
     return wrong(ran, 1 if case.wanted else 0) or (None if verdicts(ran) == [f"{case.wanted:04X}"] else ran.out)
 
@@ -525,8 +525,7 @@ def vrs_in(given: Any) -> set[str]:
 
 def all_vrs() -> set[str]:
     """Returns the VRs that the server knows."""
-    with open(os.path.join(HERE, "crates/ups_dataset/src/vr.rt"), encoding="utf-8") as source:
-        return {it.upper() for it in re.findall(r"(?m)^    ([A-Z][a-z]),$", source.read())}
+    return {it.upper() for it in re.findall(r"(?m)^    ([A-Z][a-z]),$", source("crates/ups_dataset/src/vr.rt"))}
 
 
 def bytes_of(wire: Any, uid: str) -> Optional[bytes]:
@@ -548,8 +547,7 @@ def try_moving(results: Results, program: list[str], folder: str) -> None:
         created(wires[0], HELD, STEP), status_of(wires[0], stock.move(HELD, "IN PROGRESS"))
         finished(wires[0], ENDED_STEP, "COMPLETED", PERFORMED)
         ran = run("export", "--port", str(here.port))
-        with open(path, "w", encoding="utf-8") as file:
-            file.write(ran.out)
+        pathlib.Path(path).write_text(ran.out, encoding="utf-8")
         results.tell("export", wrong(ran, DONE, "5 exported, 0 left"))
         told = [f"{HELD}: left, since it is IN PROGRESS", f"{ENDED_STEP}: left, since it is COMPLETED",
                 "3 created, 2 left, 0 refused"]
@@ -720,8 +718,7 @@ def try_scripts(results: Results, program: list[str], folder: str) -> None:
         told = [(it["step"], it["type"], it["event"], it["information"]["00741000"]["Value"]) for it in lines]
         results.tell("and leaves the report, which watch --json tells",
                      wrong(ran, DONE) or (None if told == [("1.2.13.1", 1, "state", ["SCHEDULED"])] else ran.out + ran.error))
-        with open(path, encoding="utf-8") as file:
-            content = file.read()
+        content = pathlib.Path(path).read_text(encoding="utf-8")
         results.tell("watch --exec", None if content == ran.out + "1.2.13.1 state\n" else content)
         found = holds(lambda: any(re.search(r"deliver WATCHER: Released, 1 reports, 1\.", it) for it in server.log[seen:]), 5)
         results.tell("which has ended before the answer", None if found else str(server.log[seen:]))
@@ -788,9 +785,9 @@ def try_allowed(results: Results) -> None:
     results.tell("--allow refuses another address", None if fault else "it does not")
     results.tell("and says so", None if watch.says("is none of the addresses that --allow names", True) else str(watch.error))
     strangers.Reporter(port, "127.0.0.2").ended(strangers.request(b"WATCHER") + b"?" * 1000)
-    for source in ("127.0.0.2", "127.0.1.9"):
-        fault = strangers.told(port, b"WATCHER", f"1.2.16.{source}".encode(), source=source)
-        results.tell(f"--allow lets {source} in", fault or (None if watch.says(f"1.2.16.{source} state: ") else "no line"))
+    for address in ("127.0.0.2", "127.0.1.9"):
+        fault = strangers.told(port, b"WATCHER", f"1.2.16.{address}".encode(), source=address)
+        results.tell(f"--allow lets {address} in", fault or (None if watch.says(f"1.2.16.{address} state: ") else "no line"))
     results.tell("two associations that are released end it", None if holds(lambda: watch.process.poll() == 0, 10) else "no")
 
 
@@ -910,14 +907,12 @@ def try_words(results: Results, folder: str) -> None:
     for words, status, told in WRONG:
         ran = run(*words.split())
         results.tell(words, wrong(ran, status, told) or (ran.error if "Traceback" in ran.error else None))
-    with open(os.path.join(HERE, "crates/ups_args/src/program.rt"), encoding="utf-8") as source:
-        version = re.search(r'VERSION: &str = "([^"]+)"', source.read())
+    version = re.search(r'VERSION: &str = "([^"]+)"', source("crates/ups_args/src/program.rt"))
     ran = run("--version")
     results.tell("--version", wrong(ran, DONE) or (None if version and ran.out == f"ups {version[1]}\n" else ran.out))
     path = os.path.join(folder, "log")
     line = "2026-11-26T10:15:00Z [INFO  upsd] audit: Sweep UPSD, 1 steps\n"
-    with open(path, "w", encoding="utf-8") as file:
-        file.write(line * 20_000)
+    pathlib.Path(path).write_text(line * 20_000, encoding="utf-8")
     for words in (f"audit {path}", "--help"):
         ran = subprocess.run(["bash", "-c", f'{" ".join(CLIENT)} {words} | head -1; exit "${{PIPESTATUS[0]}}"'], capture_output=True,
                              encoding="utf-8", timeout=LIMIT, check=False)

@@ -18,7 +18,7 @@ import sys
 from typing import Optional
 
 sys.path.insert(0, os.path.join(os.path.dirname(os.path.dirname(os.path.abspath(__file__))), "check/lib"))
-from machine import HERE, described, free_port, install
+from machine import HERE, described, free_port, install, source
 from results import Results
 from server import Server
 
@@ -30,8 +30,7 @@ SECONDS = 120  # for one block
 
 def blocks(path: str) -> list[tuple[str, str, list[str]]]:
     """Returns the language, the words and the printed lines of each block of a page that says `# tried`."""
-    with open(os.path.join(HERE, path), encoding="utf-8") as page:
-        found = re.findall(r"(?ms)^```(sh|python)\n# tried\n(.*?)^```$", page.read())
+    found = re.findall(r"(?ms)^```(sh|python)\n# tried\n(.*?)^```$", source(path))
     lines = [(language, text.split("\n")) for language, text in found]
     return [(language, "\n".join(it for it in text if not it.startswith("# -> ")),
              [it[len("# -> "):] for it in text if it.startswith("# -> ")]) for language, text in lines]

@@ -78,31 +78,20 @@ QUERY = dicom.find(3, 1, dicom.data(True, 0x0074, 0x1000, b"CS", b"SCHEDULED "))
 COMMAND_LEN = 6 + int.from_bytes(QUERY[2:6], "big")  # bytes of the PDU with the command of the query
 
 
-def sends(said: bytes) -> Callable[[Holder], Awaitable[None]]:
-    """Returns a kind of peer that sends these bytes, and nothing more."""
+def sends(*parts: bytes) -> Callable[[Holder], Awaitable[None]]:
+    """Returns a kind of peer that sends each part once that before is answered, and nothing more."""
     async def begins(holder: Holder) -> None:
-        await holder.say(said)
+        for part in parts[:-1]:
+            await holder.say(part)
+            await holder.hear()
+        await holder.say(parts[-1])
         await holder.hear_all()
 
     return begins
 
 
-async def stops(holder: Holder) -> None:
-    """Asks for an association, hears the answer, and sends half of a P-DATA-TF."""
-    await holder.say(REQUEST)
-    await holder.hear()
-    await holder.say(ECHO[: len(ECHO) // 2])
-    await holder.hear_all()
-
-
-async def asks_and_stops(holder: Holder) -> None:
-    """Asks for an association and sends a C-ECHO, hears the answers, and sends half of a P-DATA-TF."""
-    await holder.say(REQUEST)
-    await holder.hear()
-    await holder.say(ECHO)
-    await holder.hear()
-    await holder.say(ECHO[: len(ECHO) // 2])
-    await holder.hear_all()
+stops = sends(REQUEST, ECHO[: len(ECHO) // 2])  # inside of a P-DATA-TF
+asks_and_stops = sends(REQUEST, ECHO, ECHO[: len(ECHO) // 2])
 
 
 def each_second_goes() -> Callable[[Holder], Awaitable[None]]:
@@ -112,12 +101,7 @@ def each_second_goes() -> Callable[[Holder], Awaitable[None]]:
     async def one(holder: Holder) -> None:
         if next(turns) % 2:
             await asks_and_stops(holder)
-        await holder.say(REQUEST)
-        await holder.hear()
-        await holder.say(ECHO)
-        await holder.hear()
-        await holder.say(RELEASE)
-        await holder.hear_all()
+        await sends(REQUEST, ECHO, RELEASE)(holder)
 
     return one
 

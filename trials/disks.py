@@ -7,6 +7,7 @@ import concurrent.futures
 import contextlib
 import dataclasses
 import os
+import pathlib
 import shutil
 import subprocess
 import tempfile
@@ -115,8 +116,7 @@ def small_disk(mebibytes: int) -> Iterator[Optional[str]]:
 
 
 def take_room(folder: str, size: int) -> None:
-    with open(os.path.join(folder, "ballast"), "wb") as opened:
-        opened.write(bytes(size))
+    pathlib.Path(os.path.join(folder, "ballast")).write_bytes(bytes(size))
 
 
 def make_room(folder: str) -> None:
@@ -338,8 +338,7 @@ GOOD, NONE = ("goes on", "goes on when it is over", "ends", "is refused", "withh
 
 def has_failed(log: str) -> bool:
     """Returns whether strace let a call fail."""
-    with open(log, encoding="ascii", errors="replace") as opened:
-        return "(INJECTED)" in opened.read()
+    return "(INJECTED)" in pathlib.Path(log).read_text(encoding="ascii", errors="replace")
 
 
 def has_failing(server: Stored, failure: Failure, file: str, filling: Filling) -> str:

@@ -19,6 +19,7 @@ from __future__ import annotations
 
 import contextlib
 import os
+import pathlib
 import re
 import resource
 import signal
@@ -91,8 +92,7 @@ def spelled_checks() -> list[str]:
 
 def configuration(folder: str, ports: dict[int, int]) -> str:
     """Returns the configuration with the files of a folder, with other ports, all of this machine, and with quick checks."""
-    with open(CONFIGURATION, encoding="utf-8") as page:
-        text = page.read()
+    text = pathlib.Path(CONFIGURATION).read_text(encoding="utf-8")
     text = text.replace("/etc/haproxy/", f"{folder}/").replace("station.example:", "127.0.0.1:").replace("bind :", "bind 127.0.0.1:")
     text = re.sub(r"127\.0\.0\.1:(\d+)(?=\s)", lambda it: f"127.0.0.1:{ports[int(it[1])]}", text)
     text = text.replace("inter 10s fall 3", "inter 1s fall 2").replace("timeout check 10s", "timeout check 3s")
@@ -104,8 +104,7 @@ class Proxy:
 
     def __init__(self, folder: str, text: str) -> None:
         self.folder, self.path = folder, f"{folder}/haproxy.cfg"
-        with open(self.path, "w", encoding="utf-8") as opened:
-            opened.write(text)
+        pathlib.Path(self.path).write_text(text, encoding="utf-8")
 
     def fault(self) -> Optional[str]:
         """Returns what HAProxy says of the configuration if it does not take it, or None."""
@@ -125,8 +124,7 @@ class Proxy:
                 process.terminate()
 
     def log(self) -> str:
-        with open(f"{self.folder}/haproxy.log", encoding="utf-8") as opened:
-            return opened.read()
+        return pathlib.Path(f"{self.folder}/haproxy.log").read_text(encoding="utf-8")
 
     def asked(self, command: str) -> str:
         """Returns the answer of its socket to a command."""
@@ -290,8 +288,7 @@ def rates(entry: int, results: Results) -> None:
 
 def trials(program: list[str], folder: str, results: Results) -> None:
     """Starts the servers and HAProxy, and tries them."""
-    with open(CONFIGURATION, encoding="utf-8") as page:
-        spelled = page.read()
+    spelled = pathlib.Path(CONFIGURATION).read_text(encoding="utf-8")
     results.tell("the bytes of a check", None if all(it in spelled for it in spelled_checks()) else "they are not those of check/lib")
     for name in ("server", CALLING, "stranger"):
         certify(folder, name)
@@ -300,8 +297,7 @@ def trials(program: list[str], folder: str, results: Results) -> None:
             for it in sources:
                 with open(f"{folder}/{it}", encoding="utf-8") as source:
                     out.write(source.read())
-    with open(f"{folder}/upsd.peers", "w", encoding="utf-8") as out:
-        out.write(PEERS)
+    pathlib.Path(f"{folder}/upsd.peers").write_text(PEERS, encoding="utf-8")
     ports = {it: free_port() for it in (PLAIN, TLS, CT, MR, WATCH, WATCHER_TLS)}
     proxy = Proxy(folder, configuration(folder, ports))
     results.tell("haproxy -c", proxy.fault())

@@ -21,6 +21,7 @@ import contextlib
 import glob
 import json
 import os
+import pathlib
 import re
 import resource
 import shutil
@@ -34,7 +35,7 @@ from typing import Optional
 
 sys.path[:0] = [os.path.join(os.path.dirname(os.path.dirname(os.path.abspath(__file__))), it) for it in ("check/lib", "trials")]
 from disks import SERVES, Failing, Failure, attached
-from machine import HERE, described, free_port, holds, pid_of
+from machine import HERE, described, free_port, holds, pid_of, source
 from peer import GLOBAL
 from results import Results
 from server import Server
@@ -64,8 +65,7 @@ def sample(name: str, **labels: str) -> Sample:
 def page_in(file: str) -> Optional[str]:
     """Returns the page in a file, or None if there is no file."""
     try:
-        with open(file, encoding="ascii") as opened:
-            return opened.read()
+        return pathlib.Path(file).read_text(encoding="ascii")
     except FileNotFoundError:
         return None
 
@@ -166,8 +166,7 @@ def fault_of_memory(now: Mapping[Sample, float], pid: int) -> Optional[str]:
 def leaves_links_alone(program: list[str], folder: str, results: Results) -> None:
     """Checks that no page is written through a link beside its file, and that a limit of addresses is told."""
     file, other = os.path.join(folder, "upsd.prom"), os.path.join(folder, "other")
-    with open(other, "w", encoding="ascii") as opened:
-        opened.write("other")
+    pathlib.Path(other).write_text("other", encoding="ascii")
     os.symlink(other, file + ".new")
     with Server(program, "--metrics", file, prepare=lambda: resource.setrlimit(resource.RLIMIT_AS, (LIMIT, LIMIT))):
         results.tell("a page comes in spite of a link beside it", differences(file, {sample("upsd_virtual_memory_max_bytes"): LIMIT}))
@@ -314,11 +313,9 @@ def goes_on_without_a_file(program: list[str], folder: str, results: Results) ->
 
 def names_no_other(page: str, results: Results) -> None:
     """Checks that what is made for a monitor names no number that a page lacks, but those of a limit and of backups."""
-    with open(os.path.join(HERE, "packaging/upsd-backup"), encoding="utf-8") as opened:
-        told = {*NAME.findall(page), *NAME.findall(opened.read()), "upsd_virtual_memory_max_bytes"}
+    told = {*NAME.findall(page), *NAME.findall(source("packaging/upsd-backup")), "upsd_virtual_memory_max_bytes"}
     for path in sorted(glob.glob(os.path.join(MONITORING, "*"))):
-        with open(path, encoding="utf-8") as opened:
-            text = opened.read()
+        text = pathlib.Path(path).read_text(encoding="utf-8")
         unknown = {it for it in NAME.findall(text) if it not in told}
         results.tell(f"{os.path.basename(path)} names no other number", f"{sorted(unknown)}" if unknown else None)
         if path.endswith(".json"):

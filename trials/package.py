@@ -30,6 +30,7 @@ import contextlib
 import glob
 import hashlib
 import os
+import pathlib
 import re
 import shlex
 import shutil
@@ -41,7 +42,7 @@ from typing import Iterator, Optional
 from xml.etree import ElementTree
 
 sys.path.insert(0, os.path.join(os.path.dirname(os.path.dirname(os.path.abspath(__file__))), "check/lib"))
-from machine import HERE, PYTHON, described, holds, install
+from machine import HERE, PYTHON, described, holds, install, source
 from results import Results
 import tour
 
@@ -99,8 +100,7 @@ def built(program: str, folder: str) -> list[str]:
 
 
 def content(path: str) -> bytes:
-    with open(path, "rb") as opened:
-        return opened.read()
+    return pathlib.Path(path).read_bytes()
 
 
 def lint(package: str) -> Optional[str]:
@@ -121,8 +121,7 @@ def options_in(text: str) -> set[str]:
 
 def synopsis(program: str) -> Optional[str]:
     """Returns which options of the program's commands the synopsis of its man page lacks, or has in excess; or None."""
-    with open(os.path.join(HERE, "packaging/man/upsd.8"), encoding="utf-8") as opened:
-        page = opened.read().partition(".Sh SYNOPSIS\n")[2].partition(".Sh ")[0]
+    page = source("packaging/man/upsd.8").partition(".Sh SYNOPSIS\n")[2].partition(".Sh ")[0]
     faults = []
     for name, text in re.findall(r"(?s)\.Cm (\w+)\n(.*?)(?=\.Nm|\Z)", page):
         told, asked = {it for it in re.findall(r"Fl -([\w-]+)", text)}, options_in(run(program, name, "--help").stdout)
@@ -239,8 +238,7 @@ class Machine:
 
 def write(path: str, text: str) -> None:
     os.makedirs(os.path.dirname(path), exist_ok=True)
-    with open(path, "w", encoding="utf-8") as opened:
-        opened.write(text)
+    pathlib.Path(path).write_text(text, encoding="utf-8")
 
 
 def depend(machine: Machine, packages: list[str]) -> None:
@@ -746,8 +744,7 @@ def try_removal(machine: Machine, before: set[str], results: Results) -> None:
 
 def try_in(root: str, packages: list[str], is_checked: bool, results: Results) -> None:
     """Tries the packages in a Debian below a folder."""
-    with open(os.path.join(HERE, "README.md"), encoding="utf-8") as text:
-        commands = [it for it in tour.commands_of(text.read()) if it.is_server or it.text.startswith((tour.CLIENT, "ups "))]
+    commands = [it for it in tour.commands_of(source("README.md")) if it.is_server or it.text.startswith((tour.CLIENT, "ups "))]
     machine = Machine(root)
     depend(machine, packages)
     with machine.booted():

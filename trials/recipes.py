@@ -29,6 +29,7 @@ import datetime
 import importlib.util
 import json
 import os
+import pathlib
 import re
 import signal
 import socket
@@ -96,8 +97,7 @@ class Orthanc:
             self.process = subprocess.Popen([ORTHANC, path], stdout=log, stderr=log, env={**os.environ, **variables})
 
     def has_logged(self, text: str) -> bool:
-        with open(self.log, encoding="utf-8", errors="replace") as log:
-            return text in log.read()
+        return text in pathlib.Path(self.log).read_text(encoding="utf-8", errors="replace")
 
     def end(self) -> None:
         self.process.terminate()
@@ -211,8 +211,7 @@ def try_away(results: Results, program: list[str], server: Server, orthanc: Orth
     with Server(program, "--keep", "3600", port=server.port):
         found = holds(lambda: len(steps(server.port)) == 1, 60)
         results.tell("once the server is back it is a step", None if found else str(steps(server.port))[:300])
-        with open(os.path.join(orthanc.folder, "changes"), "w", encoding="ascii") as file:
-            file.write("0\n")
+        pathlib.Path(os.path.join(orthanc.folder, "changes")).write_text("0\n", encoding="ascii")
         holds(lambda: len(steps(server.port)) == 2, 60)
         named_so = sorted(first(it, "0040A370", "0020000D") for it in steps(server.port))
         results.tell("a walk from the first change makes each study one step", None if named_so == [STUDY, OTHER] else str(named_so))
@@ -334,8 +333,7 @@ def worklist(folder: str, days: list[str]) -> Iterator[int]:
     open(os.path.join(folder, "MWL", "lockfile"), "w", encoding="ascii").close()
     for number, day in enumerate(days):
         text = ENTRY.format(number=number, day=day, priority="STAT" if number == 0 else "ROUTINE")
-        with open(os.path.join(folder, "entry"), "w", encoding="latin-1") as file:
-            file.write(text)
+        pathlib.Path(os.path.join(folder, "entry")).write_text(text, encoding="latin-1")
         subprocess.run(["dump2dcm", "--quiet", os.path.join(folder, "entry"), os.path.join(folder, "MWL", f"{number}.wl")], check=True)
     port = free_port()
     with subprocess.Popen(["wlmscpfs", "-dfp", folder, str(port)], stderr=subprocess.DEVNULL) as process:
@@ -387,8 +385,7 @@ class Performed:
 
     def says(self, words: str) -> bool:
         def found() -> bool:
-            with open(self.log, encoding="utf-8") as log:
-                return words in log.read()
+            return words in pathlib.Path(self.log).read_text(encoding="utf-8")
         return holds(found, 60)
 
     def file(self, uid: bytes) -> str:

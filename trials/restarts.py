@@ -5,6 +5,7 @@ from __future__ import annotations
 import argparse
 import contextlib
 import os
+import pathlib
 import random
 import re
 import shutil
@@ -102,8 +103,7 @@ def earlier_format(program: list[str], folder: str, results: Results) -> None:
         results.tell(f"a store of an earlier format, {name}: it stays as it was", refused(started_on(program, file, *words), said, before, file, False))
     results.tell("a store of an earlier format: a compaction that is refused leaves it", refused(compacted(program, file, *ITS_SETTINGS[:4]), "request 1", before, file, False))
     losing = os.path.join(folder, "losing")
-    with open(losing, "wb") as opened:
-        opened.write(counting_one_more(before[file]))
+    pathlib.Path(losing).write_bytes(counting_one_more(before[file]))
     before = bytes_in(losing)
     results.tell("a store of an earlier format that has lost a request: it stays as it was",
                  refused(started_on(program, losing, *ITS_SETTINGS), MISSING, before, losing, False))
@@ -285,8 +285,7 @@ def foreign_files(program: list[str], folder: str, results: Results) -> None:
     chance = random.Random(1)
     text, noise, other, short = (os.path.join(folder, it) for it in ("text", "noise", "other", "short"))
     for path, content in ((text, b"no store\n" * 1000), (noise, chance.randbytes(8192)), (short, b"SQLite")):
-        with open(path, "wb") as opened:
-            opened.write(content)
+        pathlib.Path(path).write_bytes(content)
     with contextlib.closing(sqlite3.connect(other)) as opened:
         opened.execute("CREATE TABLE request (number INTEGER PRIMARY KEY, other TEXT)")
         opened.commit()

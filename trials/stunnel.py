@@ -28,7 +28,7 @@ import threading
 from typing import Iterator
 
 sys.path.insert(0, os.path.join(os.path.dirname(os.path.dirname(os.path.abspath(__file__))), "check/lib"))
-from machine import HERE, described, free_port, holds, install, listens
+from machine import described, free_port, holds, install, listens, source
 from results import Results
 from server import Server
 from stock import DONE, NO_ANSWER, by_client
@@ -52,8 +52,7 @@ REPORT = f"{STEP} state: InputReadinessState=READY  ProcedureStepState=COMPLETED
 
 def configurations() -> list[str]:
     """Returns the configurations of the page: the server's and the workstation's."""
-    with open(os.path.join(HERE, "docs/use/operating.md"), encoding="utf-8") as page:
-        section = page.read().partition("\n## TLS\n")[2].partition("\n## ")[0]
+    section = source("docs/use/operating.md").partition("\n## TLS\n")[2].partition("\n## ")[0]
     found = re.findall(r"(?ms)^```ini\n(.*?)^```$", section)
     if len(found) != 2:
         sys.exit(f"stunnel.py: docs/use/operating.md has {len(found)} configurations of stunnel, and not 2")

@@ -27,7 +27,7 @@ import sys
 from typing import Iterator, Optional
 
 sys.path.insert(0, os.path.join(os.path.dirname(os.path.dirname(os.path.abspath(__file__))), "check/lib"))
-from machine import HERE, described, holds, install, listens
+from machine import HERE, described, holds, install, listens, source
 from results import Results
 
 PROGRAM = "crates/upsd/out/upsd"
@@ -157,8 +157,7 @@ def main() -> None:
     asked.add_argument("--program", metavar="PATH", help=f"a program that is built already (default: {PROGRAM}, built by `rt run`)")
     given = asked.parse_args()
     install({})
-    with open(os.path.join(HERE, "README.md"), encoding="utf-8") as text:
-        commands = [it for it in commands_of(text.read()) if not it.is_gate and not (given.program and it.is_of_rt)]
+    commands = [it for it in commands_of(source("README.md")) if not it.is_gate and not (given.program and it.is_of_rt)]
     if not commands:
         sys.exit("tour.py: README.md shows no command")
     results = Results()

@@ -14,6 +14,7 @@ import glob
 import importlib.machinery
 import importlib.util
 import os
+import pathlib
 import re
 import shutil
 import sys
@@ -131,8 +132,7 @@ def applied(folder: str, edit: Edit, texts: dict[str, str]) -> dict[str, str] | 
     made = dict(texts)
     for file, old, new in edit.pairs:
         if file not in made:
-            with open(f"{folder}/{file}", encoding="utf-8") as it:
-                made[file] = it.read()
+            made[file] = pathlib.Path(f"{folder}/{file}").read_text(encoding="utf-8")
         if made[file].count(old) != 1:
             return None
         made[file] = made[file].replace(old, new)
@@ -148,8 +148,7 @@ def read(root: str, crate: str, path: str) -> Edit:
         sys.exit(f"{edit}: it changes nothing, or an old text doesn't stand once in its file")
     # (a pair that changes only the layout makes the next old text the only one of its kind)
     file, old, _ = next((it for it in edit.pairs if it[1].split() != it[2].replace("{", " {").split()), edit.pairs[0])
-    with open(f"{root}/crates/{crate}/{file}", encoding="utf-8") as it:
-        text = it.read()
+    text = pathlib.Path(f"{root}/crates/{crate}/{file}").read_text(encoding="utf-8")
     before = functions_in(text[: text.index(old) + len(old)], file)
     edit.function = before[-1] if before else function_named(f"{root}/crates/{crate}", name)
     return edit

@@ -5,6 +5,7 @@ from __future__ import annotations
 import argparse
 import importlib.util
 import os
+import pathlib
 import shutil
 import socket
 import subprocess
@@ -17,6 +18,11 @@ HERE = os.path.dirname(os.path.dirname(os.path.dirname(os.path.abspath(__file__)
 BUILT = "crates/upsd/out/upsd"  # the program that `rt run` builds there
 PYTHON = "/usr/bin/python3"
 SHELLS = ("sh", "bash", "dash", "env", "strace", "nice", "time")
+
+
+def source(path: str) -> str:
+    """Returns the text of a file of the checkout."""
+    return pathlib.Path(HERE, path).read_text(encoding="utf-8")
 
 
 def described(doc: Optional[str], program: str = "") -> argparse.ArgumentParser:

@@ -4,6 +4,7 @@ from __future__ import annotations
 
 import contextlib
 import os
+import pathlib
 import shutil
 import signal
 import subprocess
@@ -37,8 +38,7 @@ def run(*words: str, check: bool = True, given: Optional[str] = None) -> str:
 
 def put(path: str, text: str) -> None:
     os.makedirs(os.path.dirname(path), exist_ok=True)
-    with open(path, "w", encoding="utf-8") as file:
-        file.write(text)
+    pathlib.Path(path).write_text(text, encoding="utf-8")
 
 
 # the image
@@ -49,8 +49,7 @@ def settings() -> dict[str, str]:
              "etc/systemd/system/sbd.service.d/slow.conf": "# for emulated processors\n[Service]\nTimeoutStartSec=600\n"}
     for path, name in (("etc/corosync/corosync.conf", "corosync.conf"), ("etc/default/sbd", "sbd"), ("etc/drbd.d/upsd.res", "upsd.res"),
                        ("etc/systemd/system/upsd.service.d/cluster.conf", "cluster.conf")):
-        with open(os.path.join(CLUSTER_FILES, name), encoding="utf-8") as file:
-            found[path] = file.read()
+        found[path] = pathlib.Path(os.path.join(CLUSTER_FILES, name)).read_text(encoding="utf-8")
     for number in NUMBERS.values():
         for card, place in (("eth0", CLUSTER), ("eth1", OFFICE)):
             found[f"etc/systemd/network/{card}-{number}.network"] = (
