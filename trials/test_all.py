@@ -86,4 +86,5 @@ def test(words: str, needs: list[str], programs: dict[str, str], request: pytest
     if ran.returncode:
         lines = ran.stdout.splitlines()
         failed = [it for it in lines if it.startswith("failed")]
-        pytest.fail("\n".join([f"{words}: status {ran.returncode}", *failed, *lines[-LAST:]]), pytrace=False)
+        others = [it for it in lines[-LAST:] if it not in failed]
+        pytest.fail("\n".join([f"{words}: status {ran.returncode}", *failed, *others]), pytrace=False)
