@@ -3,8 +3,10 @@ use Rattle.std.specs.Prelude.{◌≡◌, ◌≢◌, ◌⊎◌, ℕ, ◌<◌, ◌
 use Rattle.std.specs.Char.{is_ascii_whitespace}
 use Rattle.std.specs.List.{list_any, starts_with}
 use Rattle.std.specs.Cmp.Lexicographic.{pointwise}
+use Rattle.std.specs.Net.Grammar.{IsIpText}
 use Rattle.std.specs.Path.{path_file_name}
 use Rattle.std.specs.Str.Parse.{IsNumeral, digits_value, signed_digits_value, without_leading_plus, without_leading_sign}
+use Rattle.std.specs.declared.net.ip_addr.IpAddr.{IpAddr}
 use Rattle.clap.specs.declared.parser.matches.Found.{Found}
 use Rattle.clap.specs.Matches.{first_value, matched_of, one_text, raw_values}
 use Rattle.ups_life.specs.declared.peer.Peer.{Peer}
@@ -104,6 +106,12 @@ SaysCompactAtOrNot (Some word) count = SaysCompactAt word count
 abbrev pub SaysBind : Option (List ℕ) → List ℕ → Type 0
 SaysBind None address = address ≡ codes "127.0.0.1"
 SaysBind (Some word) address = address ≡ word
+
+-- the address from which event reports leave: the IP address that this word writes, or none if there is no word
+abbrev pub SaysFrom : Option (List ℕ) → Option IpAddr → Type 0
+SaysFrom None from = from ≡ None
+SaysFrom (Some word) None = ⊥
+SaysFrom (Some word) (Some ip) = IsIpText word ip
 
 -- the number of a port, from 1 to 65535, in decimal digits
 pub record IsPort (text : List ℕ) : Type 0 where
@@ -296,10 +304,12 @@ leave_alone (Some store) (Some metrics) = are_apart store metrics
 leave_alone (Some store) None = true
 leave_alone None metrics = true
 
--- why the words ask nothing of `serve`: the word after `--ae` spells no AE title, or that after `--port` says no port; the file
--- for numbers is not apart from the store; the words say no limits; or they fail like those of `script`
+-- why the words ask nothing of `serve`: the word after `--ae` spells no AE title, that after `--port` says no port, or that
+-- after `--from` no IP address; the file for numbers is not apart from the store; the words say no limits; or they fail like
+-- those of `script`
 abbrev pub FailToAskServe : Found → ArgumentFault → Type 0
 FailToAskServe found faults.Ae = SpellsNoTitle found
 FailToAskServe found faults.Port = (port : ℕ) → SaysPort (unwrap_or (first_value found (codes "port")) []) port → ⊥
+FailToAskServe found faults.Source = (from : Option IpAddr) → SaysFrom (first_value found (codes "from")) from → ⊥
 FailToAskServe found faults.Metrics = leave_alone (first_value found (codes "store")) (first_value found (codes "metrics")) ≡ false
 FailToAskServe found fault = FailToLimit found fault ⊎ FailToAskScript found fault

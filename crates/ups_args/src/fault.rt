@@ -51,6 +51,9 @@ pub enum ArgumentFault<'a> {
     /// The word after `--metrics` names a file of the store, or one beside which the numbers would be written into it.
     #[error("--metrics takes a file apart from the store: its name, and that with .new behind it, may not be that of --store, nor that with -wal, -shm or -terms behind it")]
     Metrics,
+    /// The word after `--from` is no IP address.
+    #[error("--from takes an IP address of this machine, as 192.0.2.1 or 2001:db8::1")]
+    Source,
     /// Memory ran out.
     #[error("out of memory")]
     Memory,

@@ -8,6 +8,7 @@
 mod arrival;
 mod backlog;
 mod connection;
+mod departure;
 mod door;
 mod grace;
 mod memory;
@@ -27,6 +28,7 @@ mod wire_fault;
 
 pub use backlog::waiting_at;
 pub use connection::{Connection, Inlet, Outlet, ends_of};
+pub use departure::can_leave;
 pub use door::{Caller, Door};
 pub use grace::{Pressure, idle_grace, message_grace, request_grace, tenure_of};
 pub use memory::{ProcessMemory, limit_in, memory_in};
