@@ -49,7 +49,7 @@ module _ {A : Type 0} (s : Settings) (steps : List (List ℕ)) (e : Entry A) (es
       ∙ (ap (λ (x : Option Subscription). cond (is_some (watch s es w u)) (told_of s es e u r) (only_if (is_some x) (as_it_is s (e ∷ left_for s steps es) u))) (watch_next u a)
       ∙ ap (λ (x : Report). cond (is_some (watch s es w u)) (told_of s es e u r) (only_if (is_some (watch s (e ∷ es) w u)) x)) (report_next u a)))
 
-  kept_reports : (r : Request A) → is_left steps r ≡ true → reports_of s (left_for s steps es) e w r ≡ told_of_steps steps (reports_of s es e w r)
+  pub kept_reports : (r : Request A) → is_left steps r ≡ true → reports_of s (left_for s steps es) e w r ≡ told_of_steps steps (reports_of s es e w r)
   kept_reports (Create v set) a =
       ap (λ (x : Option Subscription). only_if (is_some x) (as_it_is s (e ∷ left_for s steps es) v))
       (cover_kept s steps s.peers w (row s (e ∷ left_for s steps es) v) es
@@ -73,7 +73,7 @@ module _ {A : Type 0} (s : Settings) (steps : List (List ℕ)) (e : Entry A) (es
   kept_reports (Reserve v) a = refl
 
 -- a sweep tells nothing
-sweep_tells : {A : Type 0} (s : Settings) (steps : List (List ℕ)) (m : ℕ) (xs es : List (Entry A)) (e : Entry A) (w : List ℕ) (r : Request A) → sweeps_some s steps es m r ≡ true → reports_of s xs e w r ≡ []
+pub sweep_tells : {A : Type 0} (s : Settings) (steps : List (List ℕ)) (m : ℕ) (xs es : List (Entry A)) (e : Entry A) (w : List ℕ) (r : Request A) → sweeps_some s steps es m r ≡ true → reports_of s xs e w r ≡ []
 sweep_tells s steps m xs es e w Sweep h = refl
 sweep_tells s steps m xs es e w r h = absurd cc
 

@@ -3,6 +3,7 @@ mod Acked
 pub mod Alike
 mod Counting
 mod Covering
+pub mod Given
 mod Holding
 pub mod Kept
 mod KeptRoom

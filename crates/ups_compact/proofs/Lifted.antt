@@ -20,6 +20,7 @@ stands_itself s es l = record {
   no_more = λ w. omega arith;
   acked_too = λ w. omega arith;
   before_it = λ w. refl;
+  given = λ w. refl;
 }
 
 -- AND WHAT STANDS FOR IT for what it stands for
@@ -41,6 +42,7 @@ stands_through {A} s a b c x y = record {
       let few = x.no_more w in let more = y.no_more w in let this = x.acked_too w in let that = y.acked_too w in
       omega (arith, few, more, this, that);
   before_it = λ w. x.before_it w ∙ y.before_it w;
+  given = λ w. x.given w ∙ y.given w;
 }
   where
     held_between : (u : List ℕ) → is_held s c u ≡ true → is_held s b u ≡ true

@@ -24,7 +24,7 @@ use Rattle.ups_life.specs.Verdict.{verdict}
 use Rattle.ups_life.specs.Events.{readiness, report, as_it_is, only_if, cancel_reports, set_reports, told_of, if_watched, reports_of, numbered, events, acked}
 use Rattle.ups_life.specs.History.{accepts, sized, repeats, row_then, receiver_of, of_peer, of_lock, status, acknowledged, decided, reply, legal}
 use Rattle.ups_compact.specs.Compacting.{reported}
-use Rattle.ups_compact.specs.Shifting.{shift, unacked, IsShifted}
+use Rattle.ups_compact.specs.Shifting.{shift, given_by, told_by, unacked, unacked_by, IsShifted}
 use Rattle.ups_compact.specs.Course.{with_limit}
 use Rattle.ups_compact.proofs.Accepting.{had_room, has_room, both, join}
 use Rattle.ups_compact.proofs.Alike.{any_same, filter_among, map_among}
@@ -135,6 +135,13 @@ module _ {A : Type 0} (n m : ℕ) (s : Settings) where
   unacked_any : (es : List (Entry A)) (w : List ℕ) → unacked (with_limit n s) es w ≡ unacked (with_limit m s) es w
   unacked_any es w = ap (λ (xs : List Event). drop (acked es w) (map reported xs)) (events_any es w)
 
+  given_any : (es : List (Entry A)) (w : List ℕ) → told_by (with_limit n s) es w ≡ told_by (with_limit m s) es w
+  given_any [] w = refl
+  given_any (e ∷ es) w = λ i. given_any es w i ++ given_by e (reports_any e es w e.request i)
+
+  unacked_by_any : (es : List (Entry A)) (w : List ℕ) → unacked_by (with_limit n s) es w ≡ unacked_by (with_limit m s) es w
+  unacked_by_any es w = ap (drop (acked es w)) (given_any es w)
+
   -- WHAT IS DECIDED
 
   status_any : (es : List (Entry A)) (e : Entry A) → status (with_limit n s) es e ≡ status (with_limit m s) es e
@@ -181,6 +188,7 @@ module _ {A : Type 0} (n m : ℕ) (s : Settings) where
         (subst (λ (xs : List Event). length (events (with_limit n s) by w) ≤ length xs) (events_any log w) (x.no_more w));
     acked_too = λ w. ap (λ (k : ℕ). acked by w + k) (sym (shift_any by log w)) ∙ x.acked_too w;
     before_it = λ w. sym (unacked_any by w) ∙ x.before_it w ∙ unacked_any log w;
+    given = λ w. sym (unacked_by_any by w) ∙ x.given w ∙ unacked_by_any log w;
   }
     where
       held_one : (u : List ℕ) → is_held (with_limit m s) log u ≡ true → is_held (with_limit n s) log u ≡ true

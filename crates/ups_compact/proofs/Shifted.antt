@@ -21,7 +21,8 @@ use Rattle.ups_life.proofs.Texts.{same_text}
 use Rattle.ups_life.proofs.Accepted.{said, succeeded, legal_head, legal_tail, created_fresh}
 use Rattle.ups_life.proofs.Receiving.{acked_made}
 use Rattle.ups_compact.specs.Compacting.{left_for, reported, told_to, to_tell, upto_for, compacted_for, has_title_twice, LosesNothing}
-use Rattle.ups_compact.specs.Shifting.{shift, raised, with_number_less, shifted, followed, unacked, IsShifted}
+use Rattle.ups_compact.specs.Shifting.{shift, raised, with_number_less, shifted, followed, given_by, told_by, unacked, unacked_by, to_tell_with, IsShifted}
+use Rattle.ups_compact.proofs.Given.{as_some, latest_with, length_told, pending_with}
 use Rattle.ups_compact.proofs.Staying.{all_among}
 use Rattle.ups_compact.proofs.Acked.{with_each, row_of_acks, watch_acks, cover_acks, held_acks}
 use Rattle.ups_compact.proofs.Accepting.{accepted_left, both, join}
@@ -31,7 +32,7 @@ use Rattle.ups_compact.proofs.Telling.{reports_same}
 use Rattle.ups_compact.proofs.Pending.{latest}
 use Rattle.ups_compact.proofs.Kept.{claim_kept, row_of_kept, watch_kept, cover_kept, held_kept, used_kept}
 use Rattle.ups_compact.proofs.KeptRoom.{legal_compacted_for, no_longer_for}
-use Rattle.ups_compact.proofs.Shifting.{drop_more, drop_twice, numbers_of, to_tell_is, pending_numbers, events_fewer, acked_shift, unacked_is}
+use Rattle.ups_compact.proofs.Shifting.{drop_more, drop_twice, numbers_of, to_tell_is, pending_is, pending_numbers, events_fewer, acked_shift, unacked_is, given_is}
 
 -- A COMPACTION FOR STEPS, whatever they are, frees no UID
 pub used_compacted_for : {A : Type 0} (caller moment : ℕ) (s : Settings) (steps : List (List ℕ)) (es : List (Entry A)) (u : List ℕ) → used (compacted_for caller moment s steps es) u ≡ used es u
@@ -56,6 +57,7 @@ stands_compacted {A} caller moment s steps es l once lose = record {
   no_more = λ w. events_fewer caller moment s steps es l once lose w;
   acked_too = λ w. acked_shift caller moment s steps es l once lose w;
   before_it = λ w. unacked_is caller moment s steps es l once lose w;
+  given = λ w. given_is caller moment s steps es l once lose w;
 }
 
 -- WHAT THE SHIFT MEANS
@@ -65,6 +67,9 @@ module _ {A : Type 0} (s : Settings) (by log : List (Entry A)) (x : IsShifted s 
 
   pub tells_shift : to_tell s by w ≡ to_tell s log w
   tells_shift = to_tell_is s by w ∙ ap latest (x.before_it w) ∙ sym (to_tell_is s log w)
+
+  pub given_shift : to_tell_with s by w ≡ to_tell_with s log w
+  given_shift = pending_with s by w (pending_is s by w) ∙ ap (λ (xs : List (Report × Entry A)). latest_with (as_some xs)) (x.given w) ∙ sym (pending_with s log w (pending_is s log w))
 
   pub numbers_shift : raised (shift s by log w) (pending s by w) ≡ map (λ (x : Event). x.number) (pending s log w)
   numbers_shift =
@@ -106,6 +111,11 @@ unacked_next s e es w l other =
     ap (λ (n : ℕ). drop n (told_to s (e ∷ es) w)) (not_acked w e.ae (acked es w) e.request other)
     ∙ ap (drop (acked es w)) (told_next s e es w)
     ∙ drop_more (acked es w) (told_to s es w) (reports_of s es e w e.request) (within_told s es w l)
+
+given_next : {A : Type 0} (s : Settings) (e : Entry A) (es : List (Entry A)) (w : List ℕ) → legal s es ≡ true → is_ack e.request ≡ false → unacked_by s (e ∷ es) w ≡ unacked_by s es w ++ given_by e (reports_of s es e w e.request)
+given_next s e es w l other =
+    ap (λ (n : ℕ). drop n (told_by s (e ∷ es) w)) (not_acked w e.ae (acked es w) e.request other)
+    ∙ drop_more (acked es w) (told_by s es w) (given_by e (reports_of s es e w e.request)) (subst (λ (n : ℕ). acked es w ≤ n) (sym (length_told s es w)) (within_told s es w l))
 
 module _ {A : Type 0} (s : Settings) (by log : List (Entry A)) (x : IsShifted s by log) (e : Entry A) (l : legal s (e ∷ log) ≡ true) (other : is_ack e.request ≡ false) where
   before : legal s log ≡ true
@@ -153,6 +163,10 @@ module _ {A : Type 0} (s : Settings) (by log : List (Entry A)) (x : IsShifted s 
         ∙ ap (λ (xs : List Report). xs ++ reports_of s by e w e.request) (x.before_it w)
         ∙ ap (λ (xs : List Report). unacked s log w ++ xs) (same_reports w)
         ∙ sym (unacked_next s e log w before other);
+    given = λ w.
+        given_next s e by w x.legal_too other
+        ∙ (λ i. x.given w i ++ given_by e (same_reports w i))
+        ∙ sym (given_next s e log w before other);
   }
 
 -- AN ACKNOWLEDGEMENT MORE
@@ -235,6 +249,32 @@ module _ {A : Type 0} (s : Settings) (by log : List (Entry A)) (x : IsShifted s 
       at true is = less_dropped w (subst (λ (u : List ℕ). acked log u < n) (same_text v w is) more) (ap (λ (u : List ℕ). shift s by log u) (same_text v w is))
       at false is = x.before_it w
 
+  given_ours : (w : List ℕ) → told_by s (ours ∷ by) w ≡ told_by s by w
+  given_ours w = append-nil (told_by s by w)
+
+  given_theirs : (w : List ℕ) → told_by s (theirs ∷ log) w ≡ told_by s log w
+  given_theirs w = append-nil (told_by s log w)
+
+  -- behind it
+  given_dropped : (w : List ℕ) → acked log w < n → shift s by log v ≡ shift s by log w → drop (n - shift s by log v) (told_by s by w) ≡ drop n (told_by s log w)
+  given_dropped w more same =
+      let was = x.acked_too w in
+      ap (λ (k : ℕ). drop k (told_by s by w)) (let long : n - shift s by log v ≡ acked by w + (n - acked log w) = omega (arith, was, more, same) in long)
+      ∙ sym (drop_twice (acked by w) (n - acked log w) (told_by s by w))
+      ∙ ap (drop (n - acked log w)) (x.given w)
+      ∙ drop_twice (acked log w) (n - acked log w) (told_by s log w)
+      ∙ ap (λ (k : ℕ). drop k (told_by s log w)) (let long : acked log w + (n - acked log w) ≡ n = omega (arith, more) in long)
+
+  given_then : (w : List ℕ) → acked log v < n → unacked_by s (ours ∷ by) w ≡ unacked_by s (theirs ∷ log) w
+  given_then w more =
+      ap (drop (acked (ours ∷ by) w)) (given_ours w)
+      ∙ at (bytes_eq v w) refl
+      ∙ sym (ap (drop (acked (theirs ∷ log) w)) (given_theirs w))
+    where
+      at : (b : Bool) → bytes_eq v w ≡ b → drop (cond b (n - shift s by log v) (acked by w)) (told_by s by w) ≡ drop (cond b n (acked log w)) (told_by s log w)
+      at true is = given_dropped w (subst (λ (u : List ℕ). acked log u < n) (same_text v w is) more) (ap (λ (u : List ℕ). shift s by log u) (same_text v w is))
+      at false is = x.given w
+
   ack_next : legal s (theirs ∷ log) ≡ true → IsShifted s (ours ∷ by) (theirs ∷ log)
   ack_next l =
       let more = goes_further A (length (events s log v)) (acked log v) n (legal_head s theirs log l) in record {
@@ -264,6 +304,7 @@ module _ {A : Type 0} (s : Settings) (by log : List (Entry A)) (x : IsShifted s 
             let this = acked_then w more in
             omega (arith, mine, all, this);
         before_it = λ w. unacked_then w more;
+        given = λ w. given_then w more;
       }
 
 -- EACH ENTRY that the log accepts

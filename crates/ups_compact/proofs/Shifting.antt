@@ -20,8 +20,9 @@ use Rattle.ups_life.proofs.Texts.{same_text}
 use Rattle.ups_life.proofs.Current.{rising_current, later, all_later}
 use Rattle.ups_life.proofs.Receiving.{acked_made}
 use Rattle.ups_compact.specs.Compacting.{is_left, sweeps_some, reservation, left_for, reported, told_to, told_of_steps, to_tell, of_steps, acked_of_steps, above_zero, upto_for, compacted_for, has_title_twice, LosesNothing}
-use Rattle.ups_compact.specs.Shifting.{shift, raised, unacked}
+use Rattle.ups_compact.specs.Shifting.{shift, raised, told_by, unacked, unacked_by}
 use Rattle.ups_compact.proofs.Acked.{events_acks, one_acked, none_acked, stays_unacked}
+use Rattle.ups_compact.proofs.Given.{reports_in, reports_told, given_of_steps, reports_of_steps, given_kept, given_acks, all_given}
 use Rattle.ups_compact.proofs.Known.{Counted, events_counted, counted_rises}
 use Rattle.ups_compact.proofs.Pending.{latest, is_state_of, reported_current, same_count}
 use Rattle.ups_compact.proofs.Kept.{with_reservation}
@@ -75,7 +76,7 @@ pending_from m (suc a) (x ∷ xs) h =
     at true rest = rest
     at false rest = ap (λ (b : Bool). cond b (x ∷ later (m + suc a) (current xs)) (later (m + suc a) (current xs))) (not_later x.number a h.0) ∙ rest
 
-pending_is : {A : Type 0} (s : Settings) (es : List (Entry A)) (w : List ℕ) → pending s es w ≡ current (drop (acked es w) (events s es w))
+pub pending_is : {A : Type 0} (s : Settings) (es : List (Entry A)) (w : List ℕ) → pending s es w ≡ current (drop (acked es w) (events s es w))
 pending_is s es w = ap (λ (n : ℕ). later n (current (events s es w))) (let same : acked es w ≡ 0 + acked es w = omega arith in same) ∙ pending_from 0 (acked es w) (events s es w) (events_counted s es w)
 
 pub to_tell_is : {A : Type 0} (s : Settings) (es : List (Entry A)) (w : List ℕ) → to_tell s es w ≡ latest (unacked s es w)
@@ -270,3 +271,27 @@ module _ {A : Type 0} (caller moment : ℕ) (s : Settings) (steps : List (List �
   acked_shift =
       let a = events_more in let b = events_all s steps es l lose w in let c = known_few in let n = acked_is ∙ number_is s steps es l lose w in
       omega (arith, a, b, c, n)
+
+  -- the same reports are not acknowledged, given by the same entries
+  pub given_is : unacked_by s (compacted_for caller moment s steps es) w ≡ unacked_by s es w
+  given_is =
+      ap (λ (k : ℕ). drop k (told_by s (compacted_for caller moment s steps es) w)) (acked_is ∙ number_is s steps es l lose w ∙ sym known_long)
+      ∙ ap (drop (length known_given)) (given_acks caller moment s steps es w ∙ given_kept s steps es w ∙ parted)
+      ∙ drop_front known_given (unacked_by s es w)
+    where
+      known_given : List (Report × Entry A)
+      known_given = given_of_steps steps (take (acked es w) (told_by s es w))
+
+      known_long : length known_given ≡ length (known s steps es w)
+      known_long =
+          sym (length-map known_given (λ (x : Report × Entry A). x.0))
+          ∙ ap length (reports_of_steps steps (take (acked es w) (told_by s es w)) ∙ ap (told_of_steps steps) (sym (take-map (λ (x : Report × Entry A). x.0) (acked es w) (told_by s es w)) ∙ ap (take (acked es w)) (reports_told s es w)))
+
+      still : reports_in (unacked_by s es w) ≡ unacked s es w
+      still = sym (drop-map (λ (x : Report × Entry A). x.0) (acked es w) (told_by s es w)) ∙ ap (drop (acked es w)) (reports_told s es w)
+
+      parted : given_of_steps steps (told_by s es w) ≡ known_given ++ unacked_by s es w
+      parted =
+          ap (given_of_steps steps) (sym (both_ends (acked es w) (told_by s es w)))
+          ∙ filter-append (λ (x : Report × Entry A). is_among x.0.step steps) (take (acked es w) (told_by s es w)) (unacked_by s es w)
+          ∙ ap (λ (xs : List (Report × Entry A)). known_given ++ xs) (all_given steps (unacked_by s es w) (subst (AreAmong steps) (sym still) (still_among s steps es l lose w)))

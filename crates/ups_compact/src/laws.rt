@@ -15,7 +15,7 @@ ghost use Rattle.ups_life.specs.History.{reply, decided, legal, got};
 ghost use Rattle.ups_life.specs.Worklist.{worklist};
 ghost use Rattle.ups_compact.specs.Compacting.{to_tell, has_title_twice, compacted_for, steps_needed, LosesNothing};
 ghost use Rattle.ups_compact.specs.Course.{Turn, log_of, kept_of, is_course, with_limit, IsLeftOf};
-ghost use Rattle.ups_compact.specs.Shifting.{shift, raised, shifted, lifted, followed, IsShifted};
+ghost use Rattle.ups_compact.specs.Shifting.{shift, raised, shifted, lifted, followed, to_tell_with, IsShifted};
 
 use std::alloc::Allocator;
 use ups_life::laws::a_removed_step_stays_away;
@@ -37,11 +37,13 @@ pub fn a_compaction_frees_no_uid<A: Allocator + Copy>()
 
 /// Does nothing at run time: its contract tells a proof by how much the numbers of a watcher's events are less in a
 /// history that stands for a log: all by one shift, the number of its last event, the number that it has acknowledged,
-/// and that of each event that is pending. The events pending are the same, in the same order.
+/// and that of each event that is pending. The events pending are the same, in the same order, made by the same entries: so
+/// their reports have the same Event Information.
 pub fn numbers_are_less_by_one_shift<A: Allocator + Copy>()
     ensures made { (s : Settings) → (by log : List (Entry A)) → (w : List ℕ) → IsShifted s by log → length (events s by w) + shift s by log w ≡ length (events s log w) }
     ensures acked { (s : Settings) → (by log : List (Entry A)) → (w : List ℕ) → IsShifted s by log → acked by w + shift s by log w ≡ acked log w }
     ensures told { (s : Settings) → (by log : List (Entry A)) → (w : List ℕ) → IsShifted s by log → to_tell s by w ≡ to_tell s log w }
+    ensures given { (s : Settings) → (by log : List (Entry A)) → (w : List ℕ) → IsShifted s by log → to_tell_with s by w ≡ to_tell_with s log w }
     ensures numbers { (s : Settings) → (by log : List (Entry A)) → (w : List ℕ) → IsShifted s by log → raised (shift s by log w) (pending s by w) ≡ map (λ (x : Event). x.number) (pending s log w) }
 {}
 
@@ -86,10 +88,10 @@ pub fn a_log_accepts_what_stands_for_it_accepts<A: Allocator + Copy>()
 /// Does nothing at run time: its contract tells a proof that a history that is compacted for the steps needed, any
 /// number of times while it grows, stands for the log of all that was ever entered. The log is legal where there is room
 /// for it, and in it a step is claimed once at most (PS3.4 CC.1.1). Of the history and the log, the same steps are held,
-/// the same UIDs are used (PS3.4 CC.2.5), and for each watcher the same events are pending, with numbers that are less by
-/// one shift (PS3.4 CC.2.4). Each later request is decided as by the log, an acknowledgement by its greater number there,
-/// and replied to as by it if both have room, the log perhaps by a greater limit. The answers to an N-GET and a query are
-/// the same (PS3.4 CC.2.7, CC.2.8).
+/// the same UIDs are used (PS3.4 CC.2.5), and for each watcher the same events are pending, made by the same entries, with
+/// numbers that are less by one shift (PS3.4 CC.2.4). Each later request is decided as by the log, an acknowledgement by
+/// its greater number there, and replied to as by it if both have room, the log perhaps by a greater limit. The answers to
+/// an N-GET and a query are the same (PS3.4 CC.2.7, CC.2.8).
 pub fn however_often_compacted_a_history_stands_for_its_log<A: Allocator + Copy>()
     ensures stands { (s : Settings) → (turns : List (Turn A)) → has_title_twice s.peers ≡ false → is_course s turns ≡ true → IsShifted s (kept_of s turns) (log_of s turns) }
     ensures legal { (s : Settings) → (turns : List (Turn A)) → has_title_twice s.peers ≡ false → is_course s turns ≡ true → length (log_of s turns) ≤ s.limit → legal s (log_of s turns) ≡ true }
@@ -99,6 +101,7 @@ pub fn however_often_compacted_a_history_stands_for_its_log<A: Allocator + Copy>
     ensures held { (s : Settings) → (turns : List (Turn A)) → has_title_twice s.peers ≡ false → is_course s turns ≡ true → held s (kept_of s turns) ≡ held s (log_of s turns) }
     ensures used { (s : Settings) → (turns : List (Turn A)) → (u : List ℕ) → has_title_twice s.peers ≡ false → is_course s turns ≡ true → used (kept_of s turns) u ≡ used (log_of s turns) u }
     ensures told { (s : Settings) → (turns : List (Turn A)) → (w : List ℕ) → has_title_twice s.peers ≡ false → is_course s turns ≡ true → to_tell s (kept_of s turns) w ≡ to_tell s (log_of s turns) w }
+    ensures given { (s : Settings) → (turns : List (Turn A)) → (w : List ℕ) → has_title_twice s.peers ≡ false → is_course s turns ≡ true → to_tell_with s (kept_of s turns) w ≡ to_tell_with s (log_of s turns) w }
     ensures numbers { (s : Settings) → (turns : List (Turn A)) → (w : List ℕ) → has_title_twice s.peers ≡ false → is_course s turns ≡ true
         → raised (shift s (kept_of s turns) (log_of s turns) w) (pending s (kept_of s turns) w) ≡ map (λ (x : Event). x.number) (pending s (log_of s turns) w) }
     ensures decided { (s : Settings) → (turns : List (Turn A)) → (e : Entry A) → has_title_twice s.peers ≡ false → is_course s turns ≡ true

@@ -1,6 +1,6 @@
 use Rattle.ups_compact.specs.Course.{kept_of, log_of}
 use Rattle.ups_compact.proofs.Alike.{got_same, worklist_same}
-use Rattle.ups_compact.proofs.Shifted.{tells_shift, numbers_shift}
+use Rattle.ups_compact.proofs.Shifted.{tells_shift, given_shift, numbers_shift}
 use Rattle.ups_compact.proofs.Lifted.{decided_lifted, reply_lifted}
 use Rattle.ups_compact.proofs.Standing.{course_stands, course_reply, log_legal, log_claimed}
 use Rattle.ups_compact.proofs.laws.however_often_compacted_a_history_stands_for_its_log.Goals as goal
@@ -14,6 +14,7 @@ returns g c = record {
   held = λ s turns once course. (course_stands s turns once course).says.steps;
   used = λ s turns u once course. (course_stands s turns once course).used_same u;
   told = λ s turns w once course. tells_shift s (kept_of s turns) (log_of s turns) (course_stands s turns once course) w;
+  given = λ s turns w once course. given_shift s (kept_of s turns) (log_of s turns) (course_stands s turns once course) w;
   numbers = λ s turns w once course. numbers_shift s (kept_of s turns) (log_of s turns) (course_stands s turns once course) w;
   decided = λ s turns e once course. decided_lifted s (kept_of s turns) (log_of s turns) e (course_stands s turns once course);
   reply = λ s turns e once course room. reply_lifted s (kept_of s turns) (log_of s turns) e (course_stands s turns once course) room;
