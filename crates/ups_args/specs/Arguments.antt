@@ -46,6 +46,12 @@ abbrev pub SaysOffset : Option (List ℕ) → ℤ → Type 0
 SaysOffset None offset = offset ≡ local_offset
 SaysOffset (Some word) offset = SaysMinutes word offset
 
+-- the offset with which the lines of a history are read, by this word, or that of the last run of the store
+abbrev pub SaysOtherOffset : Option (List ℕ) → Option ℤ → Type 0
+SaysOtherOffset None offset = offset ≡ None
+SaysOtherOffset (Some word) (Some offset) = SaysMinutes word offset
+SaysOtherOffset (Some word) None = ⊥
+
 -- the number of a port to listen on, from 0 to 65535, in decimal digits, with or without a + in front
 pub record SaysPort (word : List ℕ) (port : ℕ) : Type 0 where
   pub numeral : IsNumeral 10 (without_leading_plus word)
@@ -99,6 +105,18 @@ pub record SaysCompactAt (word : List ℕ) (count : ℕ) : Type 0 where
 abbrev pub SaysCompactAtOrNot : Option (List ℕ) → ℕ → Type 0
 SaysCompactAtOrNot None count = count ≡ default_compact_at
 SaysCompactAtOrNot (Some word) count = SaysCompactAt word count
+
+-- a number of requests below 2^64, in decimal digits, with or without a + in front
+pub record SaysUntil (word : List ℕ) (count : ℕ) : Type 0 where
+  pub numeral : IsNumeral 10 (without_leading_plus word)
+  pub value : count ≡ digits_value 10 (without_leading_plus word)
+  pub fits : count < 2 ^ 64
+
+-- how many requests of a store are told, by this word, or all of them
+abbrev pub SaysUntilOrNot : Option (List ℕ) → Option ℕ → Type 0
+SaysUntilOrNot None until = until ≡ None
+SaysUntilOrNot (Some word) (Some count) = SaysUntil word count
+SaysUntilOrNot (Some word) None = ⊥
 
 -- the address to listen on: this word, or 127.0.0.1 if there is none
 abbrev pub SaysBind : Option (List ℕ) → List ℕ → Type 0
@@ -262,6 +280,12 @@ abbrev pub FailToAskScript : Found → ArgumentFault → Type 0
 FailToAskScript found faults.Keep = (keep : ℕ) → SaysKeep (first_value found (codes "keep")) keep → ⊥
 FailToAskScript found faults.Offset = (offset : ℤ) → SaysOffset (first_value found (codes "offset")) offset → ⊥
 FailToAskScript found fault = FailToName (argument_words found (codes "peer")) fault
+
+-- why the words ask for no history: the word after the option in the fault says nothing
+abbrev pub FailToAskHistory : Found → ArgumentFault → Type 0
+FailToAskHistory found faults.Until = (until : Option ℕ) → SaysUntilOrNot (first_value found (codes "until")) until → ⊥
+FailToAskHistory found faults.Offset = (offset : Option ℤ) → SaysOtherOffset (first_value found (codes "offset")) offset → ⊥
+FailToAskHistory found fault = ⊥
 
 -- why the words say no limits of a server: the word after the option in the fault says none
 abbrev pub FailToLimit : Found → ArgumentFault → Type 0
