@@ -50,7 +50,7 @@ Value = Union[int, str]
 Texts = dict[str, str]  # by path
 MILLISECONDS = {"short"}
 PARAGRAPH, CELL = 600, 200  # letters
-DOCS, README = 320_000, 8_000  # bytes
+DOCS, README = 326_000, 8_000  # bytes
 RULES = {  # how CONTRIBUTING.md says these
     "A paragraph has at most {} letters": f"{PARAGRAPH}", "a table cell {}.": f"{CELL}",
     "`docs` stays within {} kB without pictures": f"{DOCS // 1000}", "`README.md` within {} bytes": f"{README:,}",

@@ -15,6 +15,7 @@ failed. trials/stock.py has the life of steps through the client, and trials/boa
                  Prometheus, also in a file
     health       the line and the exit status of a plugin: of a server that answers, of one that does not in time, of nobody, of
                  another title, and of one whose store takes no change, while it answers an echo
+    verify       reports that agree with the worklist, others (by a relay that changes them), and none; the line of a plugin
     watch        with another status and with a delay: what the server's log says of it
     announce     what a watcher that listens here is told
     moving       steps with every VR, nested sequences and three character sets go to another server by `export` and `import`, and
@@ -902,6 +903,75 @@ WRONG: list[tuple[str, int, str]] = [
 ]
 
 
+class Relay:
+    """Listens for a server in front of the client, and hands on what both send; with `is_lying` a step that the server reports as
+    SCHEDULED is COMPLETED for the client."""
+
+    def __init__(self, port: int) -> None:
+        self.port, self.is_lying = port, False
+        self.listener = socket.create_server(("127.0.0.1", 0))
+        self.place = f"127.0.0.1:{self.listener.getsockname()[1]}"
+        threading.Thread(target=self.listen, daemon=True).start()
+
+    def listen(self) -> None:
+        with contextlib.suppress(OSError):  # until it is closed
+            while True:
+                self.take(self.listener.accept()[0])
+
+    def take(self, server: socket.socket) -> None:
+        try:
+            client = socket.create_connection(("127.0.0.1", self.port))
+        except OSError:
+            server.close()
+            return
+        for one, other in ((server, client), (client, server)):
+            threading.Thread(target=self.hand_on, args=(one, other, one is server), daemon=True).start()
+
+    def close(self) -> None:
+        """Stops listening."""
+        with contextlib.suppress(OSError):
+            self.listener.shutdown(socket.SHUT_RDWR)
+        self.listener.close()
+
+    def hand_on(self, one: socket.socket, other: socket.socket, is_report: bool) -> None:
+        with contextlib.suppress(OSError):
+            while data := one.recv(1 << 16):
+                other.sendall(data.replace(b"SCHEDULED ", b"COMPLETED ") if is_report and self.is_lying else data)
+        with contextlib.suppress(OSError):
+            other.shutdown(socket.SHUT_WR)
+
+
+def try_verify(results: Results, program: list[str]) -> None:
+    """Tries `verify`: with reports that agree with the worklist, with others, and without reports."""
+    listen = free_port()
+    relay = Relay(listen)
+    with Server(program, "--keep", "3600", f"MONITOR={relay.place}") as server:
+        place = ["--port", str(server.port)]
+        words = ["verify", "--ae", "MONITOR", "--listen", str(listen), *place]
+        results.tell("verify of no steps", wrong(run(*words), DONE, "0 steps: reports and worklist agree"))
+        for step in ("1.2.19.1", "1.2.19.2", "1.2.19.3"):
+            run("create", step, *place)
+        run("claim", "1.2.19.3", *place)
+        results.tell("verify of three steps", wrong(run(*words), DONE, "3 steps: reports and worklist agree"))
+        fault = wrong(run(*words, "--nagios"), 0, "UPS OK - reports and worklist agree on 3 steps | steps=3;;;0 differing=0;;0;0 took=")
+        results.tell("verify --nagios", fault)
+        relay.is_lying = True
+        told = "1.2.19.1: reports say COMPLETED, READY, the worklist SCHEDULED, READY"
+        fault = wrong(run(*words, "--within", "3"), REFUSED, told, "3 steps: reports and worklist differ on 2")
+        results.tell("verify of reports that say something else", fault)
+        fault = wrong(run(*words, "--within", "3", "--nagios"), 2, f"UPS CRITICAL - reports and worklist differ on 2 of 3 steps: {told}; 1.2.19.2: ")
+        results.tell("verify --nagios of them", fault)
+        relay.is_lying = False
+        fault = wrong(run(*words, "--ae", "NOBODY"), NO_ANSWER, "No reports come: the subscription was answered ")
+        results.tell("verify of a title that is no watcher", fault)
+        results.tell("verify --nagios of it", wrong(run(*words, "--ae", "NOBODY", "--nagios"), 2, "UPS CRITICAL - No reports come"))
+        relay.close()
+        fault = wrong(run(*words, "--within", "2"), REFUSED, "1.2.19.1: reports say nothing, the worklist SCHEDULED, READY")
+        results.tell("verify where no report comes", fault)
+    results.tell("verify of nobody", wrong(run("verify", "--port", "1", "--within", "2"), NO_ANSWER, "The server does not answer", "refused"))
+    results.tell("verify with wrong words", wrong(run("verify", "--nagios", "--within", "0"), 3, "is no duration"))
+
+
 def try_words(results: Results, folder: str) -> None:
     """Tries wrong words, an interrupt, readers that are gone, and --version."""
     for words, status, told in WRONG:
@@ -1019,6 +1089,7 @@ def main() -> None:
     try_slow(results)
     try_wrong_server(results)
     try_board(results, asked.program)
+    try_verify(results, asked.program)
     try_watch(results, asked.program)
     try_announce(results)
     results.end("the client `ups`")

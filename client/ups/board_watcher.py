@@ -40,7 +40,8 @@ class Watching:
         self.asked, self.worklist = asked, Worklist()
         self.questions: queue.Queue[str] = queue.Queue()
         self.queued: set[str] = set()
-        self.newest, self.due, self.one, self.subscribed = 0, 0.0, 0.0, 0
+        self.newest, self.due, self.one = 0, 0.0, 0.0
+        self.subscribed: Optional[int] = None  # the status of the subscription, once it is answered
 
     def report(self, number: int, command: Dataset, data: Optional[bytes]) -> None:
         """Folds in a report. One of an older association is skipped: the newest brings it again, and its order may be wrong."""
@@ -99,7 +100,7 @@ class Watching:
         self.due = time.monotonic() + max(self.asked.every, 10 * took)
 
     def tell_subscription(self) -> None:
-        self.worklist.say("" if is_done(self.subscribed)
+        self.worklist.say("" if self.subscribed is None or is_done(self.subscribed)
                           else f"No reports come: the subscription was answered {told(self.subscribed)}.")
 
     def named(self, seconds: float) -> list[str]:

@@ -17,6 +17,7 @@
     ups rescue 1.2.3.1 --canceled
     ups status
     ups health
+    ups verify --ae MONITOR --listen 11115
     ups audit /var/log/upsd.log
     ups board --port 8080 --ae BOARD --listen 11114
 
@@ -32,8 +33,8 @@ needs Python 3.9 and pydicom (apt-get install -y python3-pydicom: then /usr/bin/
 
 The exit status is 0 where the server answers with success or a warning, 1 where it answers with a failure, and 2 where there is
 no answer, or where what is asked can't be sent. That of `import` and `export` is 1 if a step was refused or could not be
-written, that of `work` 1 if a step was canceled, and 3 if there was none to do; `health` and `status --nagios` have those of a
-monitoring plugin. It is 130 at an interrupt, and 141 where nobody reads the output any more.
+written, that of `work` 1 if a step was canceled, and 3 if there was none to do; `health`, `status --nagios`
+and `verify --nagios` have those of a monitoring plugin. It is 130 at an interrupt, and 141 where nobody reads the output any more.
 """
 
 from __future__ import annotations
@@ -58,6 +59,7 @@ from ups.questions import echo, export, find, get
 from ups.rescue import rescue
 from ups.subscriptions import subscribe, suspend, unsubscribe
 from ups.terms import PRIORITIES, PULL, PUSH, VERIFICATION, WATCH
+from ups.verifying import verify
 from ups.watching import announce, watch
 from ups.words import (
     count_word, duration_word, limits_word, minutes_word, origin_word, own_port_word, peer_word, seconds_word, status_word)
@@ -128,6 +130,16 @@ def add_health(to: Commands) -> None:
                 "health --within 10 --warning 1")
     it.add_argument("--within", type=duration_word, default=10, metavar="S", help="seconds for all of it, beyond which it is CRITICAL (10)")
     it.add_argument("--warning", type=duration_word, default=math.inf, metavar="S", help="seconds beyond which it is a WARNING (never)")
+
+
+def add_verify(to: Commands) -> None:
+    it = to.add("verify", verify, "compares what event reports tell of the steps held with what a query finds; a monitoring plugin too",
+                "verify --nagios --ae MONITOR --listen 11115")
+    add_listening(it, 11115, "the port that the server has for this side, a watcher with a title of its own, whose subscription ends with it")
+    it.add_argument("--within", type=duration_word, default=60, metavar="S",
+                    help="seconds in which the two have to agree on each step once (60)")
+    it.add_argument("--nagios", action="store_true", help="a line with performance data; exit status 0 OK, 2 CRITICAL, 3 UNKNOWN")
+    it.set_defaults(every=5)
 
 
 def add_changes(to: Commands) -> None:
@@ -241,7 +253,7 @@ def add_watching(to: Commands) -> None:
 
 def parser() -> argparse.ArgumentParser:
     commands = Commands()
-    for add in (add_questions, add_status, add_health, add_changes, add_watching):
+    for add in (add_questions, add_status, add_health, add_verify, add_changes, add_watching):
         add(commands)
     return commands.whole
 

@@ -228,7 +228,7 @@ fn put_sets<A: Allocator + Copy>(
 fn put_worklist<A: Allocator + Copy>(
     rt: &impl AllocGlobal,
     text: &mut String,
-    manager: &Manager<A>,
+    manager: &mut Manager<A>,
     keys: &Keys<A>,
 ) -> Result<(), Fail> {
     match manager.find(keys, &mut Probe::new()) {
@@ -268,7 +268,7 @@ fn put_pending<A: Allocator + Copy>(
 pub(crate) fn picture<A: Allocator + Copy>(
     rt: &impl AllocGlobal,
     alloc: A,
-    manager: &Manager<A>,
+    manager: &mut Manager<A>,
 ) -> Result<String, Fail> {
     let mut text = String::new(rt.alloc());
     for name in ["1.2.3.1", "1.2.3.2", "1.2.3.3"] {
@@ -285,7 +285,7 @@ pub(crate) fn picture<A: Allocator + Copy>(
 pub(crate) fn whole<A: Allocator + Copy>(
     rt: &impl AllocGlobal,
     alloc: A,
-    manager: &Manager<A>,
+    manager: &mut Manager<A>,
 ) -> Result<String, Fail> {
     let mut text = picture(rt, alloc, manager)?;
     put_history(rt, &mut text, alloc, manager)?;

@@ -12,6 +12,8 @@ mod recorded;
 #[cfg(test)]
 mod restored;
 #[cfg(test)]
+mod scripted;
+#[cfg(test)]
 mod short;
 #[cfg(test)]
 mod spoilt;

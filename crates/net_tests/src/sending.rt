@@ -61,6 +61,7 @@ fn options_of(alloc: Global) -> Result<ServerOptions, Fail> {
         verbose: true,
         audit: true,
         watchers: Vec::new(alloc),
+        from: None,
         metrics: None,
     })
 }

@@ -7,6 +7,8 @@ mod held;
 #[cfg(test)]
 mod index;
 #[cfg(test)]
+mod parts;
+#[cfg(test)]
 mod queues;
 #[cfg(test)]
 mod steps;

@@ -3,8 +3,10 @@ use Rattle.std.specs.Prelude.{◌≡◌, ◌≢◌, ◌⊎◌, ℕ, ◌<◌, ◌
 use Rattle.std.specs.Char.{is_ascii_whitespace}
 use Rattle.std.specs.List.{list_any, starts_with}
 use Rattle.std.specs.Cmp.Lexicographic.{pointwise}
+use Rattle.std.specs.Net.Grammar.{IsIpText}
 use Rattle.std.specs.Path.{path_file_name}
 use Rattle.std.specs.Str.Parse.{IsNumeral, digits_value, signed_digits_value, without_leading_plus, without_leading_sign}
+use Rattle.std.specs.declared.net.ip_addr.IpAddr.{IpAddr}
 use Rattle.clap.specs.declared.parser.matches.Found.{Found}
 use Rattle.clap.specs.Matches.{first_value, matched_of, one_text, raw_values}
 use Rattle.ups_life.specs.declared.peer.Peer.{Peer}
@@ -45,6 +47,12 @@ SaysKeep = SaysSecondsOr keep_seconds
 abbrev pub SaysOffset : Option (List ℕ) → ℤ → Type 0
 SaysOffset None offset = offset ≡ local_offset
 SaysOffset (Some word) offset = SaysMinutes word offset
+
+-- the offset with which the lines of a history are read, by this word, or that of the last run of the store
+abbrev pub SaysOtherOffset : Option (List ℕ) → Option ℤ → Type 0
+SaysOtherOffset None offset = offset ≡ None
+SaysOtherOffset (Some word) (Some offset) = SaysMinutes word offset
+SaysOtherOffset (Some word) None = ⊥
 
 -- the number of a port to listen on, from 0 to 65535, in decimal digits, with or without a + in front
 pub record SaysPort (word : List ℕ) (port : ℕ) : Type 0 where
@@ -100,10 +108,28 @@ abbrev pub SaysCompactAtOrNot : Option (List ℕ) → ℕ → Type 0
 SaysCompactAtOrNot None count = count ≡ default_compact_at
 SaysCompactAtOrNot (Some word) count = SaysCompactAt word count
 
+-- a number of requests below 2^64, in decimal digits, with or without a + in front
+pub record SaysUntil (word : List ℕ) (count : ℕ) : Type 0 where
+  pub numeral : IsNumeral 10 (without_leading_plus word)
+  pub value : count ≡ digits_value 10 (without_leading_plus word)
+  pub fits : count < 2 ^ 64
+
+-- how many requests of a store are told, by this word, or all of them
+abbrev pub SaysUntilOrNot : Option (List ℕ) → Option ℕ → Type 0
+SaysUntilOrNot None until = until ≡ None
+SaysUntilOrNot (Some word) (Some count) = SaysUntil word count
+SaysUntilOrNot (Some word) None = ⊥
+
 -- the address to listen on: this word, or 127.0.0.1 if there is none
 abbrev pub SaysBind : Option (List ℕ) → List ℕ → Type 0
 SaysBind None address = address ≡ codes "127.0.0.1"
 SaysBind (Some word) address = address ≡ word
+
+-- the address from which event reports leave: the IP address that this word writes, or none if there is no word
+abbrev pub SaysFrom : Option (List ℕ) → Option IpAddr → Type 0
+SaysFrom None from = from ≡ None
+SaysFrom (Some word) None = ⊥
+SaysFrom (Some word) (Some ip) = IsIpText word ip
 
 -- the number of a port, from 1 to 65535, in decimal digits
 pub record IsPort (text : List ℕ) : Type 0 where
@@ -263,6 +289,12 @@ FailToAskScript found faults.Keep = (keep : ℕ) → SaysKeep (first_value found
 FailToAskScript found faults.Offset = (offset : ℤ) → SaysOffset (first_value found (codes "offset")) offset → ⊥
 FailToAskScript found fault = FailToName (argument_words found (codes "peer")) fault
 
+-- why the words ask for no history: the word after the option in the fault says nothing
+abbrev pub FailToAskHistory : Found → ArgumentFault → Type 0
+FailToAskHistory found faults.Until = (until : Option ℕ) → SaysUntilOrNot (first_value found (codes "until")) until → ⊥
+FailToAskHistory found faults.Offset = (offset : Option ℤ) → SaysOtherOffset (first_value found (codes "offset")) offset → ⊥
+FailToAskHistory found fault = ⊥
+
 -- why the words say no limits of a server: the word after the option in the fault says none
 abbrev pub FailToLimit : Found → ArgumentFault → Type 0
 FailToLimit found faults.Associations = (count : ℕ) → SaysWorkersOrNot (first_value found (codes "associations")) count → ⊥
@@ -296,10 +328,12 @@ leave_alone (Some store) (Some metrics) = are_apart store metrics
 leave_alone (Some store) None = true
 leave_alone None metrics = true
 
--- why the words ask nothing of `serve`: the word after `--ae` spells no AE title, or that after `--port` says no port; the file
--- for numbers is not apart from the store; the words say no limits; or they fail like those of `script`
+-- why the words ask nothing of `serve`: the word after `--ae` spells no AE title, that after `--port` says no port, or that
+-- after `--from` no IP address; the file for numbers is not apart from the store; the words say no limits; or they fail like
+-- those of `script`
 abbrev pub FailToAskServe : Found → ArgumentFault → Type 0
 FailToAskServe found faults.Ae = SpellsNoTitle found
 FailToAskServe found faults.Port = (port : ℕ) → SaysPort (unwrap_or (first_value found (codes "port")) []) port → ⊥
+FailToAskServe found faults.Source = (from : Option IpAddr) → SaysFrom (first_value found (codes "from")) from → ⊥
 FailToAskServe found faults.Metrics = leave_alone (first_value found (codes "store")) (first_value found (codes "metrics")) ≡ false
 FailToAskServe found fault = FailToLimit found fault ⊎ FailToAskScript found fault

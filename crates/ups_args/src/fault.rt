@@ -48,9 +48,15 @@ pub enum ArgumentFault<'a> {
     /// The word after `--compact-at` is not a number of requests.
     #[error("--compact-at takes a number of requests, from 1 to 1000000000")]
     CompactAt,
+    /// The word after `--until` is not a number of requests.
+    #[error("--until takes a number of requests, from 0 to 18446744073709551615")]
+    Until,
     /// The word after `--metrics` names a file of the store, or one beside which the numbers would be written into it.
     #[error("--metrics takes a file apart from the store: its name, and that with .new behind it, may not be that of --store, nor that with -wal, -shm or -terms behind it")]
     Metrics,
+    /// The word after `--from` is no IP address.
+    #[error("--from takes an IP address of this machine, as 192.0.2.1 or 2001:db8::1")]
+    Source,
     /// Memory ran out.
     #[error("out of memory")]
     Memory,

@@ -5,6 +5,7 @@
 mod addresses;
 mod compact;
 mod fault;
+mod history;
 mod init;
 mod options;
 mod peers;
@@ -18,9 +19,10 @@ mod title;
 
 pub use compact::{CompactArguments, compact_arguments};
 pub use fault::ArgumentFault;
+pub use history::{HistoryArguments, history_arguments};
 pub use init::{InitArguments, init_arguments};
 pub use peers::{PeerLine, peer_line};
 pub use pipe::{PipeArguments, pipe_arguments};
 pub use program::{VERSION, command, provenance};
-pub use script::{ScriptArguments, script_arguments};
+pub use script::{ScriptArguments, reads_history, script_arguments};
 pub use server::{ServeArguments, serve_arguments};

@@ -1,6 +1,7 @@
 //! The command line as a whole.
 
 use crate::compact::compact_command;
+use crate::history::history_command;
 use crate::init::init_command;
 use crate::pipe::pipe_command;
 use crate::script::script_command;
@@ -29,7 +30,8 @@ fn with_command<'a>(
     command.subcommand(other?)
 }
 
-/// Returns the command line of `upsd`, with the subcommands `pipe`, `script`, `serve`, `init` and `compact`.
+/// Returns the command line of `upsd`, with the subcommands `pipe`, `script`, `serve`, `init`, `compact` and
+/// `history`.
 ///
 /// # Errors
 ///
@@ -43,5 +45,6 @@ pub fn command<'a>(alloc: Global) -> Result<Command<'a>, AllocError> {
     let command = with_command(command, script_command(alloc))?;
     let command = with_command(command, serve_command(alloc))?;
     let command = with_command(command, init_command(alloc))?;
-    with_command(command, compact_command(alloc))
+    let command = with_command(command, compact_command(alloc))?;
+    with_command(command, history_command(alloc))
 }

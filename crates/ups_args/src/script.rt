@@ -2,11 +2,12 @@
 
 ghost use Rattle.std.specs.Prelude.{◌≡◌, ◌≤◌, codes, length, None, IfErr, IfOk};
 ghost use Rattle.clap.specs.Matches.{first_value, found_of};
-ghost use Rattle.ups_args.specs.Arguments.{FailToAskScript, NamePeers, SaysKeep, SaysOffset, argument_words};
+ghost use Rattle.ups_args.specs.Arguments.{FailToAskScript, IsFlag, NamePeers, SaysKeep, SaysOffset, argument_words};
 ghost use Rattle.ups_life.specs.Limits.{history_limit, peer_limit};
 ghost use Rattle.ups_settings.specs.Refusal.{refusal};
 
 use crate::fault::ArgumentFault;
+use crate::options::flag;
 use crate::peers::{peers_of, with_peers};
 use crate::times::{keep_asked, offset_asked, with_times};
 use clap::{ArgMatches, Command};
@@ -15,9 +16,10 @@ use ups_life::Peer;
 
 /// Returns the command line of `upsd script`.
 pub(crate) fn script_command<'a>(alloc: Global) -> Result<Command<'a>, AllocError> {
-    let command = Command::new(alloc, "script").about(
-        "answers a script from standard input, a line for each of its lines",
-    );
+    let history = "read lines of a history too: attributes that begin with a colon, and reserve";
+    let command = Command::new(alloc, "script")
+        .about("answers a script from standard input, a line for each of its lines")
+        .arg(flag(alloc, "history", history))?;
     with_peers(alloc, with_times(alloc, command)?)
 }
 
@@ -30,6 +32,13 @@ pub struct ScriptArguments {
     pub keep: u32,
     /// The offset of the local time from UTC in minutes, positive east of it.
     pub offset: i16,
+}
+
+/// Returns whether `script` is to read lines of a history too.
+pub fn reads_history(matches: &ArgMatches<'_>) -> bool
+    ensures { IsFlag (found_of matches.now) (codes "history") result }
+{
+    matches.get_flag("history")
 }
 
 /// Parses the arguments of `script`.

@@ -1,12 +1,13 @@
 //! The arguments of `serve`.
 
-ghost use Rattle.std.specs.Prelude.{◌≡◌, ◌≤◌, ℕ, [], codes, true, length, None, option_map, IfErr, IfOk, MatchResult, unwrap_or};
+ghost use Rattle.std.specs.Prelude.{◌≡◌, ◌≤◌, ℕ, [], Option, codes, true, length, None, option_map, IfErr, IfOk, MatchResult, unwrap_or};
 ghost use Rattle.clap.specs.Matches.{first_value, found_of};
-ghost use Rattle.ups_args.specs.Arguments.{FailToAskServe, FailToLimit, IsFlag, NamePeers, NameWatchers, SaysBind, SaysCompactAt, SaysCompactAtOrNot, SaysDeliveryTimeout, SaysIdle, SaysKeep, SaysOffset, SaysPort, SaysTimeout, SaysWaiting, SaysWorkers, SaysWorkersOrNot, argument_words, leave_alone};
+ghost use Rattle.ups_args.specs.Arguments.{FailToAskServe, FailToLimit, IsFlag, NamePeers, NameWatchers, SaysBind, SaysCompactAt, SaysCompactAtOrNot, SaysDeliveryTimeout, SaysFrom, SaysIdle, SaysKeep, SaysOffset, SaysPort, SaysTimeout, SaysWaiting, SaysWorkers, SaysWorkersOrNot, argument_words, leave_alone};
 ghost use Rattle.ups_life.specs.Limits.{history_limit, peer_limit};
 ghost use Rattle.ups_peers.specs.Limits.{turns_limit, workers_limit};
 ghost use Rattle.ups_settings.specs.Refusal.{refusal};
 ghost use Rattle.ups_pdu.specs.Title.{SpellsAe};
+ghost use Rattle.std.specs.declared.net.ip_addr.IpAddr.{IpAddr};
 
 use crate::fault::ArgumentFault;
 use crate::options::{flag, worded};
@@ -17,6 +18,7 @@ use crate::times::{seconds_asked, with_times};
 use crate::title::{ae_of, ae_word};
 use clap::{ArgMatches, Command};
 use std::alloc::{AllocError, Global};
+use std::net::IpAddr;
 use ups_life::Peer;
 use ups_pdu::Ae;
 use ups_peers::{
@@ -28,7 +30,7 @@ use ups_terms::StartChoices;
 /// The default address to listen on: the loopback address.
 const LOOPBACK: &str = "127.0.0.1";
 
-/// Adds the options for the address that a server listens on.
+/// Adds the options for the address that a server listens on, and the one from which its reports leave.
 fn with_door<'a>(alloc: Global, command: Command<'a>) -> Result<Command<'a>, AllocError> {
     let port = worded(
         alloc,
@@ -37,9 +39,12 @@ fn with_door<'a>(alloc: Global, command: Command<'a>) -> Result<Command<'a>, All
         "the port to listen on; 0 takes any that is free, and prints it",
     );
     let bind = "the address to listen on [default: 127.0.0.1]";
+    let from =
+        "the IP address of this machine from which reports leave, to watchers with an address of its version [default: none, the system chooses]";
     command
         .arg(port.required(true))?
-        .arg(worded(alloc, "bind", "ADDRESS", bind))
+        .arg(worded(alloc, "bind", "ADDRESS", bind))?
+        .arg(worded(alloc, "from", "ADDRESS", from))
 }
 
 /// Adds the options for the associations that a server serves.
@@ -180,6 +185,23 @@ fn bind_asked<'a>(word: Option<&'a str>) -> &'a str
     }
 }
 
+/// Returns the address of this machine from which event reports leave, by the word after `--from`; without one, the system
+/// chooses it.
+///
+/// Errors: Source if the word is no IP address.
+fn from_asked(word: Option<&str>) -> Result<Option<IpAddr>, ArgumentFault<'_>>
+    ensures said { MatchResult result (SaysFrom (option_map (λ w. w.now) word.entry)) (λ _. (from : Option IpAddr) → SaysFrom (option_map (λ w. w.now) word.entry) from → ⊥) }
+    ensures fault { IfErr result (λ fault. fault ≡ ArgumentFault.Source) }
+{
+    let Some(word) = word else {
+        return Ok(None);
+    };
+    match word.parse::<IpAddr>() {
+        Ok(from) => Ok(Some(from)),
+        Err(_) => Err(ArgumentFault::Source),
+    }
+}
+
 /// Returns what a server allows its peers, and how far its store grows.
 ///
 /// An association may be silent between two messages for the seconds of the word after `--idle`, or 60 without one. A
@@ -225,6 +247,8 @@ pub struct ServeArguments<'a> {
     pub bind: &'a str,
     /// The port to listen on; 0 means any free port.
     pub port: u16,
+    /// The address of this machine from which event reports leave; None lets the system choose.
+    pub from: Option<IpAddr>,
     /// The peers that may watch steps.
     pub peers: Vec<Peer>,
     /// Where each of the peers gets its event reports.
@@ -262,6 +286,7 @@ pub fn serve_arguments<'a>(
     ensures title { IfOk result (λ asked. SpellsAe (unwrap_or (first_value (found_of matches.now) (codes "ae")) []) asked.ae) }
     ensures bind { IfOk result (λ asked. SaysBind (first_value (found_of matches.now) (codes "bind")) asked.bind.now) }
     ensures port { IfOk result (λ asked. SaysPort (unwrap_or (first_value (found_of matches.now) (codes "port")) []) asked.port) }
+    ensures from { IfOk result (λ asked. SaysFrom (first_value (found_of matches.now) (codes "from")) asked.from) }
     ensures peers { IfOk result (λ asked. NamePeers (argument_words (found_of matches.now) (codes "peer")) asked.peers.items) }
     ensures watchers { IfOk result (λ asked. NameWatchers (argument_words (found_of matches.now) (codes "peer")) asked.watchers.items) }
     ensures keep { IfOk result (λ asked. SaysKeep (first_value (found_of matches.now) (codes "keep")) asked.keep) }
@@ -293,12 +318,14 @@ pub fn serve_arguments<'a>(
     let service = script_arguments(alloc, matches)?;
     let watchers = watchers_of(alloc, matches.get_strs("peer").unwrap_or(&[]))?;
     let limits = limits_asked(matches)?;
+    let from = from_asked(matches.get_str("from"))?;
     let store = matches.get_str("store");
     let metrics = metrics_asked(store, matches.get_str("metrics"))?;
     Ok(ServeArguments {
         ae,
         bind: bind_asked(matches.get_str("bind")),
         port,
+        from,
         peers: service.peers,
         watchers,
         keep: service.keep,

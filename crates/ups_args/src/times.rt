@@ -51,7 +51,7 @@ pub(crate) fn seconds_asked<'a>(
 /// Parses an offset from UTC in minutes (PS3.5 section 6.2, DT).
 ///
 /// Errors: Offset if it is not a number from -720 to 840.
-fn offset_of(word: &str) -> Result<i16, ArgumentFault<'_>>
+pub(crate) fn offset_of(word: &str) -> Result<i16, ArgumentFault<'_>>
     ensures said { MatchResult result (SaysMinutes word.now) (λ _. (offset : ℤ) → SaysMinutes word.now offset → ⊥) }
     ensures fault { IfErr result (λ fault. fault ≡ ArgumentFault.Offset) }
 {

@@ -1,5 +1,6 @@
 mod Again
 mod Decoding
+mod Encoding
 mod Falling
 mod Forming
 mod Parting

@@ -1,5 +1,5 @@
 -- Rows of the definitions, computed.
-use Rattle.std.proofs.Common.{◌≡◌, ℕ, List, [], ◌∷◌, codes, refl, inl, inr, lit<}
+use Rattle.std.proofs.Common.{◌≡◌, [], ◌∷◌, codes, refl, inl, inr, lit<}
 use Rattle.ups_dataset.specs.declared.vr.Vr.TheVariants.{Lo, Sq, Ui, Un, Ur}
 use Rattle.ups_lines.specs.Escapes.{StandsFor}
 use Rattle.ups_lines.specs.Forms.{vr_of_bytes, vr_of_length, padded_value}

@@ -1,3 +1,4 @@
+pub mod Elements
 pub mod Escapes
 pub mod Forms
 pub mod Limits

@@ -45,6 +45,12 @@ pub enum LineReason {
     /// Its attributes make more than 131,072 items.
     #[error("its attributes make more than 131,072 items")]
     TooManyItems,
+    /// A word is not the UID of a step.
+    #[error("a word is not the UID of a step")]
+    Step,
+    /// Only a history has such a line.
+    #[error("it is a line of a history: give --history")]
+    OfHistory,
 }
 
 /// Why a line makes no request.

@@ -3,6 +3,7 @@
 #![tactic(auto)]
 
 mod attributes;
+mod elements;
 mod fault;
 mod laws;
 mod limits;
@@ -13,8 +14,9 @@ mod text;
 mod words;
 
 pub use attributes::{LineAttribute, attributes_of};
+pub use elements::{elements_of, put_argument};
 pub use fault::{LineFault, LineReason};
-pub use laws::what_is_printed_is_read_again;
+pub use laws::{what_is_printed_is_read_again, words_encode_one_data_set};
 pub use limits::limits_are_as_defined;
 pub use printing::{Way, put_hex, put_set, put_text};
 pub use spelling::spelled;

@@ -74,7 +74,7 @@ fn pad_of(vr: Vr) -> u8
 }
 
 /// Encodes an element with a text as its value, padded to an even length.
-fn put_value<A: Allocator + Copy>(
+pub(crate) fn put_value<A: Allocator + Copy>(
     out: &mut Vec<u8, A>,
     tag: Tag,
     value: Text<'_>,

@@ -36,7 +36,7 @@ impl<'a> Words<'a> {
     }
 
     /// Returns the next word, or None after the last one.
-    fn front(&mut self) -> Option<&'a [u8]>
+    pub fn front(&mut self) -> Option<&'a [u8]>
         ensures word { MatchOption result (words_left (option_copied self.old.rest) ≡ []) (λ word. words_left (option_copied self.old.rest) ≡ word.now ∷ words_left (option_copied self.new.rest)) }
         ensures falls { OnSome result (word_bytes_left (option_copied self.new.rest) < word_bytes_left (option_copied self.old.rest)) }
     {

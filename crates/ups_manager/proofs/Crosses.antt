@@ -48,7 +48,8 @@ use Rattle.ups_life.specs.contracts.request.Request as Request
 use Rattle.ups_life.specs.contracts.entry.Entry as Entry
 use Rattle.ups_life.specs.contracts.configuration.Configuration as Configuration
 use Rattle.ups_history.specs.contracts.history.History as History
-use Rattle.ups_rows.proofs.Crosses.{SharedRow-send}
+use Rattle.ups_rows.proofs.Crosses.{SharedRow-send, SharedPart-send}
+use Rattle.ups_rows.specs.contracts.shared_part.SharedPart as SharedPart
 use Rattle.ups_watch.specs.contracts.cover.Cover as Cover
 use Rattle.ups_watch.specs.contracts.row.WatchRow as Cells
 use Rattle.ups_watch.specs.contracts.watchers.Watchers as Watchers
@@ -131,7 +132,10 @@ module _ (A : RattleType) (g : Allocator.Ghosts A.Denot) where
 
 module _ (A : RattleType) (g : Allocator.Ghosts A.Denot) where
   Steps-send : IsSend A → IsSync A → Frees g g.dealloc_token → IsSend (Steps.the_field A g).row
-  Steps-send s y f = let h = HeldRow-send A g s y f in let o : IsSend (Option.the_row (HeldRow.the_row A g)) = search sendable depth 20 in search (sendable, IndexMap-send, leaves) depth 40
+  Steps-send s y f =
+      let h = HeldRow-send A g s y f in let o : IsSend (Option.the_row (HeldRow.the_row A g)) = search sendable depth 20 in
+      let part = SharedPart-send A g s y f in let kept : IsSend (Option.the_row (SharedPart.the_row A g)) = search sendable depth 20 in
+      search (sendable, over.crosses, IndexMap-send, leaves) depth 40
 
   Cover-send : IsSend A → Frees g g.dealloc_token → IsSend (Cover.the_field A g).row
   Cover-send s f = let k = Keys-send A g s f in search (sendable, leaves) depth 40

@@ -324,17 +324,36 @@ impl<A: Allocator + Copy> Manager<A> {
     /// the keys name. These are all steps that match if the matcher follows the rules of PS3.4, as a `Probe` does. The
     /// matcher is asked once about each step that has the first indexed key, and about no other. The reply is A700 if
     /// memory runs out.
-    pub fn find<M: Matcher>(&self, keys: &Keys<A>, matcher: &mut M) -> Reply<A>
+    pub fn find<M: Matcher>(&mut self, keys: &Keys<A>, matcher: &mut M) -> Reply<A>
         requires count { M.asked matcher.old < 2 ^ 63 }
-        ensures answer { OrLacking OutOfResources (Found (answers_among (M.says keys.now) keys.now.attributes (asked_rows self.now.settings (past self.now.history) keys.now))) result }
-        ensures whole { ((row : List El) → M.says keys.now row ≡ is_match keys.now row) → OrLacking OutOfResources (Found (worklist self.now.settings (past self.now.history) keys.now)) result }
-        ensures asked { IsAsked (M.asked matcher.old) (length (asked_rows self.now.settings (past self.now.history) keys.now)) (M.asked matcher.new) result }
-        ensures legal { is_legal self.now.settings self.now.history }
+        ensures answer { OrLacking OutOfResources (Found (answers_among (M.says keys.now) keys.now.attributes (asked_rows self.old.settings (past self.old.history) keys.now))) result }
+        ensures whole { ((row : List El) → M.says keys.now row ≡ is_match keys.now row) → OrLacking OutOfResources (Found (worklist self.old.settings (past self.old.history) keys.now)) result }
+        ensures asked { IsAsked (M.asked matcher.old) (length (asked_rows self.old.settings (past self.old.history) keys.now)) (M.asked matcher.new) result }
+        ensures legal { is_legal self.old.settings self.old.history }
+        ensures same { self.new ≡ self.old }
     {
-        match rows_of_class(self.alloc, &self.tables, &self.index, keys) {
+        match self.rows_of_query(keys) {
             Ok(rows) => found_among(&rows, keys, matcher),
             Err(_) => Reply::Status(Status::OutOfResources),
         }
+    }
+
+    /// Returns the rows of the steps of a query's class. Nothing changes but the parts of rows that are kept for the next
+    /// query.
+    ///
+    /// Errors: if memory runs out.
+    fn rows_of_query(&mut self, keys: &Keys<A>) -> Result<SharedRows<A>, AllocError>
+        ensures rows { IfOk result (λ rows. rows ≡ asked_rows self.old.settings (past self.old.history) keys.now) }
+        ensures legal { is_legal self.old.settings self.old.history }
+        ensures same { self.new ≡ self.old }
+    {
+        let Manager {
+            alloc,
+            tables,
+            index,
+            ..
+        } = self;
+        rows_of_class(*alloc, tables, index, keys)
     }
 
     /// Returns the rows on which the reply to an N-GET or a query rests. [`complete`](ups_service::complete) makes the reply
@@ -343,16 +362,17 @@ impl<A: Allocator + Copy> Manager<A> {
     /// # Errors
     ///
     /// If memory runs out, as it can't for a step that is not held.
-    pub fn look(&self, ask: &Ask<A>) -> Result<SharedRows<A>, AllocError>
+    pub fn look(&mut self, ask: &Ask<A>) -> Result<SharedRows<A>, AllocError>
         requires look { is_look ask.now ≡ true }
-        ensures rows { IfOk result (λ rows. rows ≡ rows_for self.now.settings self.now.history ask.now) }
-        ensures lacks { OnErr result (is_granted (reply_from (rows_for self.now.settings self.now.history ask.now) ask.now) ≡ true) }
-        ensures small { SmallReply (reply_from (rows_for self.now.settings self.now.history ask.now) ask.now) }
-        ensures legal { is_legal self.now.settings self.now.history }
+        ensures rows { IfOk result (λ rows. rows ≡ rows_for self.old.settings self.old.history ask.now) }
+        ensures lacks { OnErr result (is_granted (reply_from (rows_for self.old.settings self.old.history ask.now) ask.now) ≡ true) }
+        ensures small { SmallReply (reply_from (rows_for self.old.settings self.old.history ask.now) ask.now) }
+        ensures legal { is_legal self.old.settings self.old.history }
+        ensures same { self.new ≡ self.old }
     {
         match ask {
             Ask::Get { step, .. } => row_of_step(self.alloc, &self.tables, *step),
-            Ask::Find(keys) => rows_of_class(self.alloc, &self.tables, &self.index, keys),
+            Ask::Find(keys) => self.rows_of_query(keys),
             Ask::Do(_) | Ask::Pending { .. } => unreachable!(),
         }
     }

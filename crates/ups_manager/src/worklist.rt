@@ -54,18 +54,20 @@ fn rows_among<A: Allocator + Copy>(
 }
 
 /// Returns the rows of the steps of a query's class, in order of creation: the held steps that have its first indexed
-/// key, or all of them if it has none. Nothing is copied.
+/// key, or all of them if it has none. Nothing is copied, and the tables stay the same; the parts in which the rows of all
+/// steps are shared stay with them for the next query.
 ///
 /// Errors: if memory runs out.
 pub(crate) fn rows_of_class<A: Allocator + Copy>(
     alloc: A,
-    tables: &Tables<A>,
+    tables: &mut Tables<A>,
     index: &Index<A>,
     keys: &Keys<A>,
 ) -> Result<SharedRows<A>, AllocError>
-    requires indexed { index.now.steps ≡ map (indexed index.now.offset) (as_steps tables.now.steps.entries) }
-    requires once { Distinct (uids_in (as_steps tables.now.steps.entries)) }
-    ensures { IfOk result (λ rows. rows ≡ class index.now.offset keys.now (attributes_in (as_steps tables.now.steps.entries))) }
+    requires indexed { index.now.steps ≡ map (indexed index.now.offset) (as_steps tables.old.steps.entries) }
+    requires once { Distinct (uids_in (as_steps tables.old.steps.entries)) }
+    ensures rows { IfOk result (λ rows. rows ≡ class index.now.offset keys.now (attributes_in (as_steps tables.old.steps.entries))) }
+    ensures same { tables.new ≡ tables.old }
 {
     match index.candidates(keys)? {
         Some(candidates) => rows_among(alloc, tables, candidates.as_slice()),

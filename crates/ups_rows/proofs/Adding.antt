@@ -6,7 +6,7 @@ use Rattle.ups_dataset.specs.Data.{El, answer}
 use Rattle.ups_life.specs.declared.row.Row.{Row}
 use Rattle.ups_rows.specs.Answering.{answers_among, attributes_of_rows}
 
-answered-append : (says : List El → Bool) (keys : List El) (rs qs : List (List El)) → answers_among says keys (rs ++ qs) ≡ answers_among says keys rs ++ answers_among says keys qs
+pub answered-append : (says : List El → Bool) (keys : List El) (rs qs : List (List El)) → answers_among says keys (rs ++ qs) ≡ answers_among says keys rs ++ answers_among says keys qs
 answered-append says keys rs qs = ap (map (λ r. answer r keys)) (filter-append says rs qs) ∙ map-append (λ r. answer r keys) (filter says rs) (filter says qs)
 
 answered_one : (says : List El → Bool) (keys r : List El) → answers_among says keys (r ∷ []) ≡ cond (says r) (answer r keys ∷ []) []

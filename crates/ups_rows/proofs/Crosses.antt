@@ -1,5 +1,5 @@
--- A shared row may go to another thread, where threads may share its allocator: one fact for each type from the ones inside
--- it.
+-- A shared row, and a part of them, may go to another thread, where threads may share its allocator: one fact for each type
+-- from the ones inside it.
 use denote.RattleType.{RattleType}
 use denote.Param.Send.{IsSend, IsSync, Frees, sendable}
 use Rattle.std.specs.declared.alloc.Allocator as Allocator
@@ -9,6 +9,7 @@ use Rattle.ups_dataset.proofs.tag.Tag.TheSendSync as tag
 use Rattle.ups_dataset.proofs.vr.Vr.TheSendSync as vr
 use Rattle.ups_dataset.specs.contracts.set.DataSet as DataSet
 use Rattle.ups_life.specs.contracts.row.Row as Row
+use Rattle.ups_rows.specs.contracts.shared_part.SharedPart as SharedPart
 use Rattle.ups_rows.specs.contracts.shared_row.SharedRow as SharedRow
 
 module _ (A : RattleType) (g : Allocator.Ghosts A.Denot) where
@@ -26,3 +27,9 @@ module _ (A : RattleType) (g : Allocator.Ghosts A.Denot) where
 
   pub SharedRow-send : IsSend A → IsSync A → Frees g g.dealloc_token → IsSend (SharedRow.the_field A g).row
   SharedRow-send s y f = let r = Row-send s f in let q = Row-sync y in search (sendable, over.crosses) depth 40
+
+  SharedRow-sync : IsSend A → IsSync A → Frees g g.dealloc_token → IsSync (SharedRow.the_field A g).row
+  SharedRow-sync s y f = let r = Row-send s f in let q = Row-sync y in search (sendable, over.crosses) depth 40
+
+  pub SharedPart-send : IsSend A → IsSync A → Frees g g.dealloc_token → IsSend (SharedPart.the_field A g).row
+  SharedPart-send s y f = let r = SharedRow-send s y f in let q = SharedRow-sync s y f in search (sendable, over.crosses) depth 40

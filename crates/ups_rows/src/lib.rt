@@ -3,8 +3,11 @@
 #![tactic(auto)]
 
 mod answering;
+mod first;
+mod shared_part;
 mod shared_row;
 mod shared_rows;
 
+pub use shared_part::SharedPart;
 pub use shared_row::SharedRow;
 pub use shared_rows::SharedRows;

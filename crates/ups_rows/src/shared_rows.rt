@@ -2,9 +2,11 @@
 
 ghost use Rattle.std.specs.Prelude.{◌≡◌, ◌<◌, ◌≤◌, ◌+◌, ◌^◌, ◌++◌, [], ◌∷◌, length, IfOk, OnOk, OnErr, slice_get};
 ghost use Rattle.std.specs.Option.{option_copied};
-ghost use Rattle.ups_rows.specs.Answering.{answers_among};
+ghost use Rattle.ups_rows.specs.Answering.{answers_among, rows_of_parts};
 
-use crate::answering::add_matches;
+use crate::answering::{add_parts, add_some};
+use crate::first::{first_of, first_of_parts};
+use crate::shared_part::SharedPart;
 use crate::shared_row::SharedRow;
 use std::alloc::{AllocError, Allocator};
 use std::marker::Model;
@@ -12,15 +14,19 @@ use ups_dataset::DataSet;
 use ups_life::Sets;
 use ups_match::{Keys, Matcher};
 
-/// Rows of steps that others may share. They never change, whatever becomes of the steps. A contract sees their
-/// attributes, in order.
+/// The most rows that one call answers from: a matcher counts what it is asked, in 64 bits. No memory holds more.
+const MOST: usize = (1 << 63) - 1;
+
+/// Rows of steps that others may share: those of parts, and single ones behind them. They never change, whatever becomes
+/// of the steps. A contract sees their attributes, in order.
 #[derive(Drop)]
 pub struct SharedRows<A: Allocator + Copy> {
+    parts: Vec<SharedPart<A>, A>,
     rows: Vec<SharedRow<A>, A>,
 }
 
 impl<A: Allocator + Copy> Model for SharedRows<A> {
-    ghost use Rattle.std.specs.Prelude.{List};
+    ghost use Rattle.std.specs.Prelude.{List, ◌++◌};
     ghost use Rattle.ups_dataset.specs.Data.{El};
 
     ghost Value = { List (List El) };
@@ -29,9 +35,9 @@ impl<A: Allocator + Copy> Model for SharedRows<A> {
 
     ghost coded = { sets_code };
 
-    ghost use Rattle.ups_rows.specs.Answering.{attributes_of_rows};
+    ghost use Rattle.ups_rows.specs.Answering.{attributes_of_rows, rows_of_parts};
 
-    ghost view = { λ r. attributes_of_rows r.rows.items };
+    ghost view = { λ r. rows_of_parts r.parts.items ++ attributes_of_rows r.rows.items };
 }
 
 impl<A: Allocator + Copy> SharedRows<A> {
@@ -40,8 +46,17 @@ impl<A: Allocator + Copy> SharedRows<A> {
         ensures { result ≡ [] }
     {
         SharedRows {
+            parts: Vec::new(alloc),
             rows: Vec::new(alloc),
         }
+    }
+
+    /// Returns the rows of parts, one part after another.
+    pub fn of_parts(parts: Vec<SharedPart<A>, A>) -> SharedRows<A>
+        ensures { result ≡ rows_of_parts parts.items }
+    {
+        let rows = Vec::new(*parts.allocator());
+        SharedRows { parts, rows }
     }
 
     /// Appends a row, which has one more owner then. Nothing is copied.
@@ -62,9 +77,9 @@ impl<A: Allocator + Copy> SharedRows<A> {
     pub fn first(&self) -> Option<&DataSet<A>>
         ensures { option_copied result ≡ slice_get self.now 0 }
     {
-        match self.rows.first() {
-            Some(row) => Some(&row.get().attributes),
-            None => None,
+        match first_of_parts(self.parts.as_slice()) {
+            Some(attributes) => Some(attributes),
+            None => first_of(self.rows.as_slice()),
         }
     }
 
@@ -73,7 +88,7 @@ impl<A: Allocator + Copy> SharedRows<A> {
     ///
     /// # Errors
     ///
-    /// If memory runs out.
+    /// If memory runs out, or if there are 2^63 rows.
     pub fn answers<M: Matcher>(
         &self,
         keys: &Keys<A>,
@@ -85,7 +100,8 @@ impl<A: Allocator + Copy> SharedRows<A> {
         ensures most { M.asked matcher.new ≤ M.asked matcher.old + length self.now }
     {
         let mut found = Sets::new(*self.rows.allocator());
-        add_matches(&mut found, self.rows.as_slice(), keys, matcher)?;
+        let left = add_parts(&mut found, self.parts.as_slice(), MOST, keys, matcher)?;
+        add_some(&mut found, self.rows.as_slice(), left, keys, matcher)?;
         Ok(found)
     }
 }

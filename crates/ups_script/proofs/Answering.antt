@@ -5,12 +5,12 @@ use Rattle.std.specs.Io.KnownBytes.{Appends}
 use Rattle.ups_life.specs.declared.entry.Entry.{Entry}
 use Rattle.ups_life.specs.Settings.{Settings}
 use Rattle.ups_lines.specs.Words.{words_of}
-use Rattle.ups_script.specs.declared.asking.Asked.{Asked}
+use Rattle.ups_requests.specs.declared.asking.Asked.{Asked}
 use Rattle.ups_script.specs.declared.fault.ScriptFault.{ScriptFault}
 use Rattle.ups_script.specs.declared.fault.ScriptFault.TheVariants.{BadLine, TooManyLines, Read, Write, Memory}
 use Rattle.ups_script.specs.declared.telling.Told.{Told}
 use Rattle.ups_script.specs.Printing.{line_of}
-use Rattle.ups_script.specs.Questions.{AsksAt}
+use Rattle.ups_requests.specs.Questions.{AsksAt}
 use Rattle.ups_script.specs.Running.{AnswersLine, Leaves, Breaks}
 use Rattle.ups_script.specs.Telling.{TellsAsked}
 

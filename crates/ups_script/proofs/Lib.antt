@@ -1,6 +1,4 @@
 mod Answering
-mod Failing
 mod Lasting
-mod Naming
 mod Taking
-mod Unread
+mod Told

@@ -1,7 +1,7 @@
 -- The lines of a script: how they are taken from the bytes that a reader has left, if those are known.
 use Rattle.std.specs.Prelude.{◌≡◌, ◌≢◌, ◌<◌, ◌⊎◌, ℕ, ◌+◌, Bool, true, false, List, [], ◌∷◌, ◌++◌, length, take, All, Option, IfSome, OnSome}
 use Rattle.std.specs.Io.KnownBytes.{Keeps, Consumes, IsAtEnd}
-use Rattle.ups_script.specs.Limits.{max_line}
+use Rattle.ups_requests.specs.Limits.{max_line}
 
 -- a reader has bytes left, if they are known
 abbrev pub HasMore : Option (List ℕ) → Type 0

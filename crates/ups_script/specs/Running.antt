@@ -5,14 +5,14 @@ use Rattle.std.specs.List.{flat_map}
 use Rattle.ups_life.specs.declared.entry.Entry.{Entry}
 use Rattle.ups_life.specs.Settings.{Settings}
 use Rattle.ups_lines.specs.Words.{words_of}
-use Rattle.ups_script.specs.declared.asking.Asked.{Asked}
+use Rattle.ups_requests.specs.declared.asking.Asked.{Asked}
 use Rattle.ups_script.specs.declared.fault.ScriptFault.{ScriptFault}
 use Rattle.ups_script.specs.declared.fault.ScriptFault.TheVariants.{BadLine, TooManyLines, Read, Write, Memory}
 use Rattle.ups_script.specs.declared.telling.Told.{Told}
 use Rattle.ups_script.specs.Limits.{max_lines}
 use Rattle.ups_script.specs.Lines.{HasMore, TakesLine, TakesLines}
 use Rattle.ups_script.specs.Printing.{bad_text, line_of}
-use Rattle.ups_script.specs.Questions.{AsksAt, IsBad}
+use Rattle.ups_requests.specs.Questions.{AsksAt, IsBad}
 use Rattle.ups_script.specs.Telling.{TellsAsked}
 
 -- the number of a line that may be read

@@ -7,7 +7,7 @@ use Rattle.ups_life.specs.declared.request.Ask.{Ask}
 use Rattle.ups_life.specs.declared.request.Ask.TheVariants.{Do, Pending}
 use Rattle.ups_life.specs.declared.request.Reply.{Reply}
 use Rattle.ups_life.specs.declared.request.Reply.TheVariants.{Status as Answered}
-use Rattle.ups_life.specs.declared.request.Request.TheVariants.{Ack, Sweep}
+use Rattle.ups_life.specs.declared.request.Request.TheVariants.{Ack, Sweep, Reserve}
 use Rattle.ups_life.specs.declared.row.Holder.{Holder}
 use Rattle.ups_cycle.specs.declared.status.Status.{Status}
 use Rattle.ups_life.specs.Instances.{step_in}
@@ -16,12 +16,12 @@ use Rattle.ups_life.specs.Steps.{past}
 use Rattle.ups_life.specs.Watching.{held, watched}
 use Rattle.ups_manager.specs.Held.{holder_of}
 use Rattle.ups_service.specs.Law.{nobody, alone, Serves}
-use Rattle.ups_script.specs.declared.asking.Asked.{Asked}
-use Rattle.ups_script.specs.declared.asking.Question.{Question}
-use Rattle.ups_script.specs.declared.asking.Question.TheVariants as questions
+use Rattle.ups_requests.specs.declared.asking.Asked.{Asked}
+use Rattle.ups_requests.specs.declared.asking.Question.{Question}
+use Rattle.ups_requests.specs.declared.asking.Question.TheVariants as questions
 use Rattle.ups_script.specs.declared.telling.Told.{Told}
 use Rattle.ups_script.specs.declared.telling.Told.TheVariants as told
-use Rattle.ups_script.specs.Asking.{Asks}
+use Rattle.ups_requests.specs.Asking.{Asks}
 
 -- A request at a moment is answered by the law of the manager; a refused message gets its status and changes nothing.
 abbrev pub Meets : {A : Type 0} → Settings → List (Entry A) → List ℕ → ℕ → Result (Ask A) Status → Reply A → List (Entry A) → Type 0
@@ -47,6 +47,7 @@ TellsOf settings history ae moment (questions.Message operation data_set) (told.
 TellsOf settings history ae moment questions.Sweep (told.Replied reply) after = Serves settings nobody 0 (alone history) ae moment (Do Sweep) reply (alone after)
 TellsOf settings history ae moment (questions.Pending max) (told.Replied reply) after = Serves settings nobody 0 (alone history) ae moment (Pending max) reply (alone after)
 TellsOf settings history ae moment (questions.Acknowledge upto) (told.Replied reply) after = Serves settings nobody 0 (alone history) ae moment (Do (Ack upto)) reply (alone after)
+TellsOf settings history ae moment (questions.Reserve step) (told.Replied reply) after = Serves settings nobody 0 (alone history) ae moment (Do (Reserve step)) reply (alone after)
 TellsOf settings history ae moment questions.Watches (told.Watched steps) after = (steps.items ≡ watched settings (past history) ae) × (after ≡ history)
 TellsOf settings history ae moment questions.Held (told.Steps steps) after = (steps.items ≡ held settings (past history)) × (after ≡ history)
 TellsOf settings history ae moment (questions.Holder instance) (told.Holder title) after = (title ≡ title_of settings history instance) × (after ≡ history)

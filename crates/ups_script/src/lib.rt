@@ -1,12 +1,10 @@
 //! Scripts: requests to a Unified Procedure Step service (PS3.4 annex CC), one per line, with one line for each reply.
-//! A line becomes the operation and the data set of a message, and a manager answers it in the same way. `ups_lines`
-//! handles words, escapes and the bytes of attributes.
+//! A line becomes the operation and the data set of a message (`ups_requests`), and a manager answers it in the same way.
 #![tactic(auto)]
 
-mod asking;
 mod fault;
+pub mod laws;
 mod limits;
-mod line;
 mod printing;
 mod reading;
 mod running;
@@ -14,4 +12,4 @@ mod telling;
 
 pub use fault::{BadLine, ScriptFault};
 pub use limits::limits_are_as_defined;
-pub use running::{answer_lines, run};
+pub use running::{answer_lines, run, run_history};

@@ -6,9 +6,9 @@ ghost use Rattle.ups_script.specs.Lines.{HasMore, IsLinePart, Lengthens, TakesLi
 ghost use Rattle.ups_script.specs.Running.{IsReading};
 
 use crate::fault::ScriptFault;
-use crate::limits::MAX_LINE;
 use std::alloc::Allocator;
 use std::io::{BufRead, Error, ErrorKind};
+use ups_requests::MAX_LINE;
 
 /// Returns whether a signal interrupted the failed call, so that it is tried again.
 pub(crate) fn is_interrupted(error: &Error) -> bool {

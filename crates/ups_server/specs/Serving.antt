@@ -4,7 +4,7 @@ use Rattle.std.specs.Global.{Global}
 use Rattle.atomic_table.specs.Seated.{TableId}
 use Rattle.clap.specs.Matches.{first_value}
 use Rattle.clap.specs.declared.parser.matches.Found.{Found}
-use Rattle.ups_args.specs.Arguments.{IsFlag, NamePeers, NameWatchers, SaysCompactAtOrNot, SaysDeliveryTimeout, SaysIdle, SaysKeep, SaysOffset, SaysTimeout, SaysWaiting, SaysWorkersOrNot, argument_words}
+use Rattle.ups_args.specs.Arguments.{IsFlag, NamePeers, NameWatchers, SaysCompactAtOrNot, SaysDeliveryTimeout, SaysFrom, SaysIdle, SaysKeep, SaysOffset, SaysTimeout, SaysWaiting, SaysWorkersOrNot, argument_words}
 use Rattle.ups_args.specs.declared.server.ServeArguments.{ServeArguments}
 use Rattle.ups_ledger.specs.declared.keeper.Keeper.{Keeper}
 use Rattle.ups_ledger.specs.declared.ledger.Ledger.{Ghosts}
@@ -33,13 +33,14 @@ seats_of workers watchers = workers + deliverers_of workers watchers + 1
 abbrev pub settings_asked : ServeArguments → Settings
 settings_asked asked = record { peers = asked.peers.items; keep = asked.keep; offset = asked.offset; limit = LASTING_LIMIT }
 
--- how the threads of the server work: with its title, its local time, its limits and its watchers; each worker has
+-- how the threads of the server work: with its title, its local time, its limits, its watchers and the address to leave from; each worker has
 -- `to_serve` associations to serve, and the sweeper and each deliverer have `to_make` rounds to make
 pub record AreAsked (options : ServerOptions) (asked : ServeArguments) (to_serve to_make : ℕ) : Type 0 where
   pub ae : options.config.ae ≡ asked.ae
   pub offset : options.config.offset ≡ asked.offset
   pub limits : options.limits ≡ asked.limits
   pub watchers : options.watchers ≡ asked.watchers
+  pub from : options.from ≡ asked.from
   pub verbose : options.verbose ≡ asked.verbose
   pub audit : options.audit ≡ asked.audit
   pub metrics : option_map (λ m. string_bytes m.path) options.metrics ≡ option_map (λ w. w.now) asked.metrics
@@ -70,6 +71,7 @@ pub record AreWords (found : Found) (asked : ServeArguments) : Type 0 where
   pub delivery_timeout : SaysDeliveryTimeout (first_value found (codes "delivery-timeout")) asked.limits.delivery_timeout
   pub waiting : SaysWaiting (first_value found (codes "waiting")) asked.limits.waiting
   pub compact_at : SaysCompactAtOrNot (first_value found (codes "compact-at")) asked.limits.compact_at
+  pub from : SaysFrom (first_value found (codes "from")) asked.from
   pub check : IsFlag found (codes "check") asked.check
   pub verbose : IsFlag found (codes "verbose") asked.verbose
   pub audit : IsFlag found (codes "audit") asked.audit

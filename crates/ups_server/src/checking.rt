@@ -14,15 +14,33 @@ use crate::telling::tell_settings;
 use clap::ArgMatches;
 use log::{Log, info, warn};
 use std::alloc::{AllocError, Global};
+use std::net::{IpAddr, SocketAddr};
 use std::{io, str};
 use ups_args::{ArgumentFault, ServeArguments, serve_arguments};
 use ups_ledger::Ledger;
 use ups_peers::{Watcher, WatcherAddress};
-use ups_transport::Network;
+use ups_transport::{Network, can_leave};
 
-/// Looks the host of a watcher up, and logs its addresses, or that it has none: a server starts all the same, and looks it
-/// up again for each delivery.
-fn tell_addresses<R: Network + Log>(rt: &R, watcher: &Watcher) {
+/// Warns if no report can leave from an address of this machine to any of the addresses of a host.
+fn tell_unreachable<R: Log>(
+    rt: &R,
+    title: &str,
+    host: &str,
+    from: IpAddr,
+    addresses: &[SocketAddr],
+) {
+    if !addresses.is_empty()
+        && !addresses
+            .iter()
+            .any(|address| can_leave(Some(from), *address))
+    {
+        warn!(rt; target: "upsd", "watcher {title}: {host} has no address of the version of {from}");
+    }
+}
+
+/// Looks the host of a watcher up, and logs its addresses, or that it has none, or none to which reports can leave: a server
+/// starts all the same, and looks it up again for each delivery.
+fn tell_addresses<R: Network + Log>(rt: &R, from: Option<IpAddr>, watcher: &Watcher) {
     let Some(WatcherAddress { host, port }) = &watcher.address else {
         return;
     };
@@ -41,6 +59,9 @@ fn tell_addresses<R: Network + Log>(rt: &R, watcher: &Watcher) {
     for address in addresses.iter() {
         info!(rt; target: "upsd", "watcher {title}: {host} is {address}");
     }
+    if let Some(from) = from {
+        tell_unreachable(rt, title, host, from, &addresses);
+    }
 }
 
 /// Prints why a server can't listen at an address and a port; port 0 stands for any.
@@ -58,6 +79,26 @@ pub(crate) fn can_listen<R: Network + Eprint>(rt: &R, bind: &str, port: u16) -> 
         Err(fault) => {
             tell_unheard(rt, bind, port, fault);
             false
+        }
+    }
+}
+
+/// Returns whether this machine has the address from which reports are to leave, and prints it if not.
+///
+/// Errors: lack of memory.
+fn has_source_address<R: Network + AllocGlobal + Eprint>(
+    rt: &R,
+    from: Option<IpAddr>,
+) -> Result<bool, AllocError> {
+    let Some(from) = from else {
+        return Ok(true);
+    };
+    let host = format!(in rt.alloc(); "{from}")?;
+    match rt.listen(host.as_str(), 0) {
+        Ok(_) => Ok(true),
+        Err(fault) => {
+            let _ = eprintln!(rt; "upsd: no report can leave from {host}: {fault}");
+            Ok(false)
         }
     }
 }
@@ -131,9 +172,10 @@ where
     let asked = serve_arguments(rt.alloc(), matches)?;
     tell_settings(rt, &asked);
     for watcher in asked.watchers.iter() {
-        tell_addresses(rt, watcher);
+        tell_addresses(rt, asked.from, watcher);
     }
     let store = look_at_store(rt.alloc(), opener, &asked)?;
     let can_listen = can_listen(rt, asked.bind, port_to_try(asked.port, store.taken));
-    Ok(can_listen && store.is_usable)
+    let can_leave = has_source_address(rt, asked.from)?;
+    Ok(can_listen && can_leave && store.is_usable)
 }

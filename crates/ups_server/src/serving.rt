@@ -129,6 +129,7 @@ fn options_of(
     ensures offset { result.config.offset ≡ asked.entry.offset }
     ensures limits { result.limits ≡ asked.entry.limits }
     ensures watchers { result.watchers ≡ asked.entry.watchers }
+    ensures from { result.from ≡ asked.entry.from }
     ensures verbose { result.verbose ≡ asked.entry.verbose }
     ensures audit { result.audit ≡ asked.entry.audit }
     ensures metrics { result.metrics ≡ metrics }
@@ -140,6 +141,7 @@ fn options_of(
         offset,
         limits,
         watchers,
+        from,
         verbose,
         audit,
         ..
@@ -153,6 +155,7 @@ fn options_of(
         verbose,
         audit,
         watchers,
+        from,
         metrics,
     }
 }

@@ -39,6 +39,9 @@ pub(crate) fn tell_settings<R: Log>(rt: &R, asked: &ServeArguments<'_>) {
     let provenance = provenance();
     let (peers, watchers) = (asked.peers.len(), asked.watchers.len());
     info!(rt; target: "upsd", "upsd {VERSION}, {provenance}: ae={title} bind={bind} port={port} associations={workers} idle={idle} timeout={timeout} delivery-timeout={delivery_timeout} waiting={waiting} keep={keep} offset={offset} verbose={verbose} audit={audit} peers={peers} watchers={watchers} store={} store-leave-out={may_leave_out} store-other-settings={may_change_terms} compact={may_compact} compact-at={compact_at} metrics={}", store.unwrap_or("none"), metrics.unwrap_or("none"));
+    if let Some(from) = asked.from {
+        info!(rt; target: "upsd", "reports leave from {from}");
+    }
     for watcher in asked.watchers.iter() {
         let title = str::from_utf8(watcher.ae.as_bytes()).unwrap_or("");
         match &watcher.address {

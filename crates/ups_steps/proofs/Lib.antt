@@ -1,3 +1,4 @@
+mod Covering
 mod Placing
 pub mod Putting
 mod Taking

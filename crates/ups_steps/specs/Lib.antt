@@ -1,3 +1,4 @@
 pub mod Held
+pub mod Parts
 pub mod Places
 pub mod Table

@@ -1,6 +1,6 @@
 //! The iterator over the held steps.
 
-ghost use Rattle.std.specs.Prelude.{◌≡◌, ◌<◌, ◌^◌, length};
+ghost use Rattle.std.specs.Prelude.{◌≡◌, ◌<◌, ◌≤◌, ◌-◌, ◌^◌, drop, length, take};
 ghost use Rattle.std.specs.Iterator.{at_most};
 ghost use Rattle.std.specs.List.{IsDistinct};
 ghost use Rattle.std.specs.Map.{keys_of};
@@ -45,6 +45,20 @@ impl<'a, A: Allocator + Copy> Iter<'a, A> {
     {
         Iter {
             places: places.iter(),
+        }
+    }
+
+    /// Returns an iterator over the steps that hold the places from `start` up to `end`.
+    pub(crate) fn between(places: &'a Places<A>, start: usize, end: usize) -> Iter<'a, A>
+        requires order { start ≤ end }
+        requires within { end ≤ length places.now.entries }
+        ensures { result ≡ held_in (take (end - start) (drop start places.now.entries)) }
+    {
+        let Some(range) = places.get_range(start..end) else {
+            unreachable!();
+        };
+        Iter {
+            places: range.iter(),
         }
     }
 }

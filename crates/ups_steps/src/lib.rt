@@ -3,6 +3,7 @@
 
 mod held;
 mod iter;
+mod parts;
 mod places;
 mod steps;
 

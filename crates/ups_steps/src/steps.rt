@@ -13,6 +13,7 @@ ghost use Rattle.ups_steps.specs.Held.{held_at, final_of, put_held, attributes_h
 
 use crate::held::HeldRow;
 use crate::iter::Iter;
+use crate::parts::{Parts, share_parts};
 use crate::places::{Places, add, close_up, find, free_each, replace};
 use indexmap::IndexMap;
 use std::alloc::{AllocError, Allocator};
@@ -30,6 +31,7 @@ use ups_rows::SharedRows;
 pub struct Steps<A: Allocator + Copy> {
     places: Places<A>,
     count: usize,
+    parts: Parts<A>,
 }
 
 impl<A: Allocator + Copy> Model for Steps<A> {
@@ -46,7 +48,7 @@ impl<A: Allocator + Copy> Model for Steps<A> {
 
     ghost view = { λ s. record { entries = held_in s.places.entries; spare = spare s.places } };
 
-    ghost invariant = { λ s. KeepsSteps s.places.entries s.count };
+    ghost invariant = { λ s. KeepsSteps s.places.entries s.count s.parts.items };
 }
 
 impl<A: Allocator + Copy> Steps<A> {
@@ -57,6 +59,7 @@ impl<A: Allocator + Copy> Steps<A> {
         Steps {
             places: IndexMap::new(alloc),
             count: 0,
+            parts: Vec::new(alloc),
         }
     }
 
@@ -122,19 +125,19 @@ impl<A: Allocator + Copy> Steps<A> {
         self.iter().map(|(step, _)| *step).collect(alloc)
     }
 
-    /// Returns the rows of the held steps, in order of creation, which the caller then shares. Nothing is copied.
+    /// Returns the rows of the held steps, in order of creation, which the caller then shares. Nothing is copied, and the
+    /// table stays the same: it keeps the parts of rows that this makes, each until one of its places changes.
     ///
     /// # Errors
     ///
     /// If memory runs out.
-    pub fn rows(&self, alloc: A) -> Result<SharedRows<A>, AllocError>
-        ensures { IfOk result (λ rows. rows ≡ attributes_held self.now.entries) }
+    pub fn rows(&mut self, alloc: A) -> Result<SharedRows<A>, AllocError>
+        ensures rows { IfOk result (λ rows. rows ≡ attributes_held self.old.entries) }
+        ensures same { self.new ≡ self.old }
     {
-        let mut rows = SharedRows::new(alloc);
-        for (_, held) in self.iter() {
-            rows.add(&held.row)?;
-        }
-        Ok(rows)
+        let Steps { places, parts, .. } = self;
+        let shared = share_parts(parts, places, alloc)?;
+        Ok(SharedRows::of_parts(shared))
     }
 
     /// Appends a step that is not held. It uses the room of one step.
@@ -144,8 +147,12 @@ impl<A: Allocator + Copy> Steps<A> {
         ensures entries { self.new.entries ≡ self.old.entries ++ (step, held) ∷ [] }
         ensures spare { self.old.spare ≤ self.new.spare + 1 }
     {
-        let Steps { places, count } = self;
-        add(places, step, held);
+        let Steps {
+            places,
+            count,
+            parts,
+        } = self;
+        add(places, parts, step, held);
         *count += 1;
     }
 
@@ -155,7 +162,7 @@ impl<A: Allocator + Copy> Steps<A> {
         ensures entries { self.new.entries ≡ put_held step held self.old.entries }
         ensures spare { self.new.spare ≡ self.old.spare }
     {
-        replace(&mut self.places, step, held);
+        replace(&mut self.places, &mut self.parts, step, held);
     }
 
     /// Removes each of these steps that is held.
@@ -163,11 +170,16 @@ impl<A: Allocator + Copy> Steps<A> {
         ensures entries { self.new.entries ≡ filter (λ e. not (is_among e.0 (steps_of steps.now))) self.old.entries }
         ensures spare { self.old.spare ≤ self.new.spare }
     {
-        let Steps { places, count } = self;
-        *count = free_each(places, steps, *count);
+        let Steps {
+            places,
+            count,
+            parts,
+        } = self;
+        *count = free_each(places, parts, steps, *count);
         let free = places.len() - *count;
         if free > *count {
             close_up(places);
+            parts.clear();
         }
     }
 }

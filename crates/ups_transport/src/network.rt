@@ -2,11 +2,12 @@
 
 use crate::backlog::{list_of, waiting_at};
 use crate::memory::{ProcessMemory, limit_in, memory_in};
+use crate::source_address::connect_from;
 use crate::supervisor::send_to;
 use log::Handle;
 use std::fs::{File, Permissions};
 use std::io::{self, BufReader, ErrorKind, Write};
-use std::net::{SocketAddr, TcpListener, TcpStream, ToSocketAddrs};
+use std::net::{IpAddr, SocketAddr, TcpListener, TcpStream, ToSocketAddrs};
 use std::os::unix::fs::PermissionsExt;
 use std::time::Duration;
 use std::{env, fs};
@@ -27,12 +28,19 @@ pub trait Network {
     /// If looking the name up fails; OutOfMemory.
     fn look_up(&self, host: &str, port: u16) -> io::Result<Vec<SocketAddr>>;
 
-    /// Connects to an address within a limit; None is no limit.
+    /// Connects to an address within a limit; None is no limit. The connection leaves from an address of this machine, or
+    /// from the one that the system chooses.
     ///
     /// # Errors
     ///
-    /// If connecting fails; TimedOut if it takes longer.
-    fn connect(&self, address: SocketAddr, limit: Option<Duration>) -> io::Result<TcpStream>;
+    /// If connecting fails, as AddrNotAvailable if this machine does not have the address to leave from; TimedOut if it
+    /// takes longer.
+    fn connect(
+        &self,
+        from: Option<IpAddr>,
+        address: SocketAddr,
+        limit: Option<Duration>,
+    ) -> io::Result<TcpStream>;
 
     /// Listens at a host, given by name or number, and a port.
     ///
@@ -88,10 +96,16 @@ impl Network for HostRuntime {
         Ok(found)
     }
 
-    fn connect(&self, address: SocketAddr, limit: Option<Duration>) -> io::Result<TcpStream> {
-        match limit {
-            Some(limit) => TcpStream::connect_timeout(self, &address, limit),
-            None => TcpStream::connect(self, address),
+    fn connect(
+        &self,
+        from: Option<IpAddr>,
+        address: SocketAddr,
+        limit: Option<Duration>,
+    ) -> io::Result<TcpStream> {
+        match (from, limit) {
+            (Some(from), _) => connect_from(from, address, limit),
+            (None, Some(limit)) => TcpStream::connect_timeout(self, &address, limit),
+            (None, None) => TcpStream::connect(self, address),
         }
     }
 
@@ -137,8 +151,13 @@ impl<R: Network, L> Network for Handle<R, L> {
         self.inner().look_up(host, port)
     }
 
-    fn connect(&self, address: SocketAddr, limit: Option<Duration>) -> io::Result<TcpStream> {
-        self.inner().connect(address, limit)
+    fn connect(
+        &self,
+        from: Option<IpAddr>,
+        address: SocketAddr,
+        limit: Option<Duration>,
+    ) -> io::Result<TcpStream> {
+        self.inner().connect(from, address, limit)
     }
 
     fn listen(&self, host: &str, port: u16) -> io::Result<TcpListener> {

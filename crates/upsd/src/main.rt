@@ -9,6 +9,7 @@ ghost use Rattle.ups_life.specs.Limits.{history_limit, peer_limit};
 mod beside;
 mod ending;
 mod following;
+mod history;
 mod keeping;
 mod naming;
 mod place;
@@ -16,6 +17,7 @@ mod scripting;
 mod storing;
 
 use crate::ending::{checked_status, refuse, server_status};
+use crate::history::perform_history;
 use crate::naming::{NamedWords, with_peers};
 use crate::scripting::answer_script;
 use crate::storing::{AskedServer, Stores, perform_compact, perform_init, server_asked};
@@ -30,7 +32,9 @@ use std::str;
 use std::sync::Wait;
 use std::thread::Threads;
 use std::time::Clock;
-use ups_args::{PipeArguments, command, pipe_arguments, provenance, script_arguments};
+use ups_args::{
+    PipeArguments, command, pipe_arguments, provenance, reads_history, script_arguments,
+};
 use ups_log::{LineStyle, LossyLog};
 pub use ups_net::{ServerOptions, work};
 use ups_peers::TURNS;
@@ -87,7 +91,7 @@ fn perform<R: Input + Print + Eprint + AllocGlobal>(
 ) -> Result<ExitStatus, AllocError> {
     match matches.subcommand() {
         Some(("script", matches)) => match script_arguments(rt.alloc(), matches) {
-            Ok(asked) => answer_script(rt, &asked),
+            Ok(asked) => answer_script(rt, &asked, reads_history(matches)),
             Err(fault) => refuse(rt, fault),
         },
         Some((_, matches)) => match pipe_arguments(rt.alloc(), matches) {
@@ -194,6 +198,7 @@ where
             Some(("serve", matches)) => perform_network(serving, stores, named, matches),
             Some(("init", matches)) => perform_init(stores, matches),
             Some(("compact", matches)) => perform_compact(stores, matches),
+            Some(("history", matches)) => perform_history(stores.rt, matches),
             _ => perform(rt, &matches),
         },
         Ok(Err(status)) => Ok(status),

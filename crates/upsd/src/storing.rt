@@ -36,7 +36,7 @@ use ups_terms::{StartChoices, Terms, terms_text};
 /// Opens the stores that the command line names. No other part of the program knows how these are kept.
 #[derive(Drop)]
 pub(crate) struct Stores<'a, R: Clock + Log> {
-    rt: &'a HostRuntime,
+    pub(crate) rt: &'a HostRuntime,
     telling: &'a R,
     run: Run<'a>,
     /// The port that the command line names.
@@ -157,7 +157,11 @@ fn tell_unopened<R: Eprint>(rt: &R, file: &str, fault: &StartFault) -> Unopened 
 /// Returns how the program ends after a fault of a store, and prints it, unless memory ran out.
 ///
 /// Errors: lack of memory, if that is the fault.
-fn stopped<R: Eprint>(rt: &R, file: &str, fault: &StartFault) -> Result<ExitStatus, AllocError> {
+pub(crate) fn stopped<R: Eprint>(
+    rt: &R,
+    file: &str,
+    fault: &StartFault,
+) -> Result<ExitStatus, AllocError> {
     match tell_unopened(rt, file, fault) {
         Unopened::Memory => Err(AllocError),
         Unopened::Told => Ok(ExitStatus::Stopped),

@@ -93,7 +93,7 @@ never 0 00741202=REPROC -> 2: 0000";
 
 /// Finds in a manager, and returns the number of steps that its matcher is asked about and the number that match.
 pub(super) fn counts<A: Allocator + Copy>(
-    manager: &Manager<A>,
+    manager: &mut Manager<A>,
     keys: &Keys<A>,
 ) -> Result<(u64, usize), Fail> {
     let mut probe = Probe::new();
@@ -139,13 +139,13 @@ fn counted(
 }
 
 /// Finds with the matcher that matches everything, and returns the reply and the number of times it was asked.
-fn found_always(manager: &Manager<Global>, keys: &Keys<Global>) -> (Reply<Global>, u64) {
+fn found_always(manager: &mut Manager<Global>, keys: &Keys<Global>) -> (Reply<Global>, u64) {
     let mut matcher = Always { count: 0 };
     (manager.find(keys, &mut matcher), matcher.count)
 }
 
 /// Finds with the matcher that matches nothing, and returns the same.
-fn found_never(manager: &Manager<Global>, keys: &Keys<Global>) -> (Reply<Global>, u64) {
+fn found_never(manager: &mut Manager<Global>, keys: &Keys<Global>) -> (Reply<Global>, u64) {
     let mut matcher = Never { count: 0 };
     (manager.find(keys, &mut matcher), matcher.count)
 }
@@ -154,7 +154,7 @@ fn found_never(manager: &Manager<Global>, keys: &Keys<Global>) -> (Reply<Global>
 /// asked and the reply.
 fn found_by(
     rt: &impl AllocGlobal,
-    manager: &Manager<Global>,
+    manager: &mut Manager<Global>,
     name: &str,
     find: &str,
 ) -> Result<String, Fail> {

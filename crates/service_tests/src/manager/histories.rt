@@ -506,7 +506,7 @@ fn compare_all(
     rt: &impl AllocGlobal,
     chance: &mut Chance,
     counts: &mut [u64; COUNTED],
-    manager: &Manager<Global>,
+    manager: &mut Manager<Global>,
     before: usize,
 ) -> Result<(), Fail> {
     add(counts, 15, held_by_both(rt, manager)?);

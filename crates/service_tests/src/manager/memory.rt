@@ -113,7 +113,7 @@ const FINDS: &str = "\
 fn put_finds<A: Allocator + Copy>(
     text: &mut String,
     alloc: A,
-    manager: &Manager<A>,
+    manager: &mut Manager<A>,
 ) -> Result<(), Fail> {
     for keys in FINDS.lines() {
         let (asked, found) = counts(manager, &keys_of(alloc, keys)?)?;
@@ -126,7 +126,7 @@ fn put_finds<A: Allocator + Copy>(
 fn whole<A: Allocator + Copy>(
     rt: &impl AllocGlobal,
     alloc: A,
-    manager: &Manager<A>,
+    manager: &mut Manager<A>,
 ) -> Result<String, Fail> {
     let mut text = picture(rt, manager)?;
     put_finds(&mut text, alloc, manager)?;
@@ -142,7 +142,7 @@ fn whole<A: Allocator + Copy>(
 fn is_whole<A: Allocator + Copy>(
     rt: &impl AllocGlobal,
     alloc: A,
-    manager: &Manager<A>,
+    manager: &mut Manager<A>,
     text: &str,
 ) -> Result<bool, Fail> {
     Ok(whole(rt, alloc, manager)?.as_str() == text)

@@ -127,7 +127,10 @@ fn plainly_found(
 }
 
 /// Finds in a manager, and returns the sets and the number of steps that its matcher was asked about.
-fn sets_found(manager: &Manager<Global>, keys: &Keys<Global>) -> Result<(Sets<Global>, u64), Fail> {
+fn sets_found(
+    manager: &mut Manager<Global>,
+    keys: &Keys<Global>,
+) -> Result<(Sets<Global>, u64), Fail> {
     let mut probe = Probe::new();
     match manager.find(keys, &mut probe) {
         Reply::Sets(sets) => Ok((sets, probe.count())),
@@ -159,7 +162,7 @@ fn class_size(rt: &impl AllocGlobal, manager: &Manager<Global>, first: &str) -> 
 /// about.
 fn found(
     rt: &impl AllocGlobal,
-    manager: &Manager<Global>,
+    manager: &mut Manager<Global>,
     keys: &str,
 ) -> Result<(Vec<u8>, usize, u64), Fail> {
     let keys = keys_of(rt.alloc(), keys)?;
@@ -171,7 +174,7 @@ fn found(
 /// many sets both found. The matcher is asked about the steps that have the first indexed key, and about no others.
 pub(super) fn found_by_both(
     rt: &impl AllocGlobal,
-    manager: &Manager<Global>,
+    manager: &mut Manager<Global>,
     query: &str,
 ) -> Result<usize, Fail> {
     let (keys, first) = cut(query, " -> ")?;

@@ -1,7 +1,7 @@
 use Rattle.std.proofs.Common.{refl, subst, rules}
 use Rattle.std.specs.Io.KnownBytes.{Appends}
 use Rattle.ups_script.specs.Printing.{bad_text}
-use Rattle.ups_script.specs.Questions.{IsBad, OnBad}
+use Rattle.ups_requests.specs.Questions.{IsBad, OnBad}
 use Rattle.ups_script.proofs.Answering.{told_line, left_line}
 use Rattle.ups_script.proofs.running.answer.Goals as goal
 

@@ -30,7 +30,7 @@ returns-clause-ran g c =
     let seats : c.args.asked.limits.workers + c.deliverers_of-deliverers.result + 1 ≡ seats_of c.args.asked.limits.workers (length c.args.asked.watchers.items) = ap (λ n. c.args.asked.limits.workers + n + 1) c.deliverers_of-deliverers.ensures.number ∙ ap (λ k. seats_of c.args.asked.limits.workers k) (c.len-watchers.ensures ∙ c.args.asked.watchers.ok.0) in
     let passes = opened.passes ∙ (ap (λ n. passes_from c.in-Ok-open.desk.table (shared_state c.args.begun.manager) 1 n) seats ∙ ap (λ m. passes_from c.in-Ok-open.desk.table m 1 (seats_of c.args.asked.limits.workers (length c.args.asked.watchers.items))) (sym opened.desk.1)) in (
       c.options_of-options.result,
-      record { ae = e.ae; offset = e.offset; limits = e.limits; watchers = e.watchers; verbose = e.verbose; audit = e.audit; metrics = ap (option_map (λ (m : MetricsFile). string_bytes m.path)) e.metrics ∙ c.in-Ok-metrics_of.ensures; associations = e.associations; rounds = e.rounds },
+      record { ae = e.ae; offset = e.offset; limits = e.limits; watchers = e.watchers; from = e.from; verbose = e.verbose; audit = e.audit; metrics = ap (option_map (λ (m : MetricsFile). string_bytes m.path)) e.metrics ∙ c.in-Ok-metrics_of.ensures; associations = e.associations; rounds = e.rounds },
       subst (λ l. Ran c.options_of-options.result (is_some c.args.asked.store) c.run-begun.result.0 l c.run-begun.result.1.items) passes
           (subst (λ b. Ran c.options_of-options.result b c.run-begun.result.0 c.in-Ok-open.passes.items c.run-begun.result.1.items) c.requires.keeps c.run-begun.ensures.ran),
     )

@@ -21,6 +21,7 @@ returns-clause-ran g c =
       delivery_timeout = e.delivery_timeout;
       waiting = e.waiting;
       compact_at = e.compact_at;
+      from = e.from;
       check = e.check;
       verbose = e.verbose;
       audit = e.audit;

@@ -3,6 +3,7 @@ use Rattle.indexmap.specs.IndexMap.{spare}
 use Rattle.ups_life.specs.Watching.{is_among}
 use Rattle.ups_keep.specs.Waits.{steps_of}
 use Rattle.ups_steps.specs.declared.held.HeldRow.{HeldRow}
+use Rattle.ups_steps.specs.Parts.{PartsCover}
 use Rattle.ups_steps.specs.Places.{held_in}
 use Rattle.ups_steps.proofs.places.free_each.Given as goal
 
@@ -12,4 +13,5 @@ invariant-loop-step g l = record {
   count : l.left ≡ length (held_in l.places.entries);
   len : length l.places.entries ≡ length l.fn.places.entries;
   spare : spare l.places ≡ spare l.fn.places;
+  covers : PartsCover l.fn.parts.items l.fn.places.entries → PartsCover l.parts.items l.places.entries;
 }

@@ -13,16 +13,6 @@ use Rattle.ups_manager.proofs.Finding.{row_for_get, get_lacks, get_is_small, lac
 use Rattle.ups_manager.proofs.Reindexed.{are_once}
 use Rattle.ups_manager.proofs.manager.Manager.look.Goals as goal
 
-pub rows_of_class-requires-clause-indexed : goal.rows_of_class-requires-clause-indexed
-rows_of_class-requires-clause-indexed g c =
-    let m = c.self.inside in
-    index_is m.configuration (past m.history.entries) m.index (as_steps m.tables.steps.entries) c.self.invariant.1 (steps_kept m.configuration m.history.entries m.tables c.self.invariant.0.tables)
-
-pub rows_of_class-requires-clause-once : goal.rows_of_class-requires-clause-once
-rows_of_class-requires-clause-once g c =
-    let m = c.self.inside in
-    subst (λ (hs : List (HeldStep g.row.A.Denot)). Distinct (uids_in hs)) (sym (steps_kept m.configuration m.history.entries m.tables c.self.invariant.0.tables)) (are_once m.configuration (past m.history.entries) c.self.invariant.0.tables.legal)
-
 pub returns-in-Get-clause-rows : goal.returns-in-Get-clause-rows
 returns-in-Get-clause-rows g c =
     let m = c.self.inside in
@@ -45,16 +35,10 @@ pub returns-in-Get-clause-legal : goal.returns-in-Get-clause-legal
 returns-in-Get-clause-legal g c = rw (← c.self.view_is) c.self.invariant.0.tables.legal
 
 pub returns-in-Find-clause-rows : goal.returns-in-Find-clause-rows
-returns-in-Find-clause-rows g c =
-    let m = c.self.inside in
-    rw (← c.self.view_is, c.in-Find.is) (subst (λ (all : List (List El)). IfOk c.rows_of_class.result (λ rows. rows ≡ all))
-    (class_by_history m.configuration (past m.history.entries) m.index.offset c.in-Find.keys (as_steps m.tables.steps.entries) (steps_kept m.configuration m.history.entries m.tables c.self.invariant.0.tables) c.self.invariant.1.offset) c.rows_of_class.ensures)
+returns-in-Find-clause-rows g c = rw (c.in-Find.is) c.rows_of_query.ensures.rows
 
 pub returns-in-Find-clause-lacks : goal.returns-in-Find-clause-lacks
-returns-in-Find-clause-lacks g c = rw (← c.self.view_is, c.in-Find.is) (lacks_any c.rows_of_class.result)
+returns-in-Find-clause-lacks g c = rw (c.in-Find.is) (lacks_any c.rows_of_query.result)
 
 pub returns-in-Find-clause-small : goal.returns-in-Find-clause-small
-returns-in-Find-clause-small g c = rw (← c.self.view_is, c.in-Find.is) tt
-
-pub returns-in-Find-clause-legal : goal.returns-in-Find-clause-legal
-returns-in-Find-clause-legal g c = rw (← c.self.view_is) c.self.invariant.0.tables.legal
+returns-in-Find-clause-small g c = rw (c.in-Find.is) tt

@@ -18,6 +18,7 @@ invariant_of-self g c =
     record {
       exact = omega (arith, more, one, c.self.invariant.exact);
       dense = omega (arith, c.add.ensures.len, c.self.invariant.dense);
+      covered = c.add.ensures.covers c.self.invariant.covered;
     }
 
 pub returns-clause-entries : goal.returns-clause-entries

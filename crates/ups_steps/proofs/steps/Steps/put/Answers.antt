@@ -12,4 +12,5 @@ invariant_of-self g c =
     record {
       exact = c.self.invariant.exact ∙ sym (ap length c.replace.ensures.steps ∙ as_many_put c.args.step c.args.held (held_in c.self.inside.places.entries) here);
       dense = omega (arith, c.replace.ensures.len, c.self.invariant.dense);
+      covered = c.replace.ensures.covers c.self.invariant.covered;
     }

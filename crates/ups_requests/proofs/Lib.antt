@@ -1,0 +1,5 @@
+mod Determined
+mod Exacting
+mod Failing
+mod Naming
+mod Unread

@@ -1,9 +1,0 @@
-use Rattle.std.proofs.Common.{sym, subst}
-use Rattle.ups_script.specs.Asking.{IsUnasked}
-use Rattle.ups_script.proofs.Unread.{unasked_is}
-use Rattle.ups_script.proofs.telling.ask_of.Goals as goal
-
-pub returns-in-Err-clause-unasked : goal.returns-in-Err-clause-unasked
-returns-in-Err-clause-unasked g c =
-    subst (IsUnasked c.args.offset c.args.operation.now c.args.data_set.now) (sym c.without_set.ensures)
-    (unasked_is c.args.offset c.args.operation.now c.args.data_set.now c.in-Err.fault c.in-Err.ensures.found c.in-Err.ensures.only)
