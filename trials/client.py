@@ -28,6 +28,8 @@ failed. trials/stock.py has the life of steps through the client, and trials/boa
                  ends their association alone, with a line; the next report is taken. Commands with a server that sends such things
     people       the heading and the columns of `find` on a terminal, and none elsewhere; what -v tells
     rescue       the claims of a store with their Transaction UIDs, and the end of one, which the server's log says who asked for
+    explain      of each step the request since which a query finds it, or doesn't, as it was made, now and before; audit messages
+                 with the patient and the study of a step
     words        numbers that are none or too large end no command by a traceback; an interrupt, a reader that is gone, --version
 """
 
@@ -53,6 +55,7 @@ import urllib.error
 import urllib.request
 import warnings
 from typing import Any, Optional
+from xml.etree import ElementTree
 
 TOP = os.path.dirname(os.path.dirname(os.path.abspath(__file__)))
 sys.path[:0] = [os.path.join(TOP, it) for it in ("check/lib", "trials/lib")]
@@ -474,6 +477,52 @@ def try_rescue(results: Results, program: list[str], folder: str) -> None:
         results.tell("rescue of a step that nobody holds", wrong(run("rescue", "1.2.19.1", *store), REFUSED, "is not claimed"))
         results.tell("rescue of a store that is missing", wrong(run("rescue", "--store", f"{file}.none"), NO_ANSWER, "No such file"))
         results.tell("rescue of all at once", wrong(run("rescue", "--canceled", *store), NO_ANSWER, "needs a step"))
+
+
+# what is asked of a server, in this order, and what `explain` says of a query for SCHEDULED and CT* behind all of it, and behind three
+EXPLAINED = (
+    "create 1.2.20.1 --label CT --patient-id P1 -k (0040,A370)[0].(0020,000D)=1.2.9", "create 1.2.20.2 --label MR", "create 1.2.20.3 --label CTA",
+    "claim 1.2.20.1 --transaction 2.25.1 --ae READER", "set 1.2.20.2 -k ProcedureStepLabel=CTX --ae EDITOR", "cancel 1.2.20.3")
+EXPLANATIONS = {
+    (): ["1.2.20.1  not: ProcedureStepState is IN PROGRESS since 4, Change UPS State by READER",
+         "1.2.20.2  in the answer since 5, N-SET by EDITOR",
+         "1.2.20.3  not: ProcedureStepState is CANCELED since 6, Request UPS Cancel by CLIENT", "1 in the answer, 2 not, at 6"],
+    ("--at", "3"): ["1.2.20.1  in the answer since 1, N-CREATE by CLIENT",
+                    "1.2.20.2  not: ProcedureStepLabel is MR since 2, N-CREATE by CLIENT",
+                    "1.2.20.3  in the answer since 3, N-CREATE by CLIENT", "2 in the answer, 1 not, at 3"],
+    ("--step", "1.2.20.2"): ["1.2.20.2  in the answer since 5, N-SET by EDITOR", "1 in the answer, 0 not, at 6"],
+    ("--step", "1.2.20.9"): ["1.2.20.9  not: no request has created it", "0 in the answer, 0 not, at 6"],
+}
+
+
+def patients_told(lines: list[str], log: str, store: list[str]) -> list[ElementTree.Element]:
+    """Returns the objects of audit messages that name a patient or a study."""
+    pathlib.Path(log).write_text("".join(f"{it}\n" for it in lines))
+    messages = [ElementTree.fromstring(it) for it in run("audit", log, "--with-patients", *store).out.splitlines()]
+    return [it for message in messages for it in message.findall("ParticipantObjectIdentification")
+            if it.findtext("ParticipantObjectName") in ("Study Instance UID", "Patient Number")]
+
+
+def try_explain(results: Results, program: list[str], folder: str) -> None:
+    """Tries `explain` beside a server that runs, which removes the steps in the end."""
+    file = os.path.join(folder, "explained.db")
+    subprocess.run([*program, "init", file], check=True)
+    store = ["--store", file, "--upsd", program[0]]
+    with Server(program, "--keep", "3600", "--audit", "--store", file) as server:
+        for line in EXPLAINED:
+            ran = run(*line.split(), "--port", str(server.port))
+            results.tell(line, wrong(ran, DONE))
+        for more, wanted in EXPLANATIONS.items():
+            ran = run("explain", "--state", "SCHEDULED", "--label", "CT*", *more, *store)
+            results.tell(f"explain {' '.join(more)}", wrong(ran, DONE) or (None if ran.out.splitlines() == wanted else ran.out))
+        results.tell("explain behind more requests than there are", wrong(run("explain", "--at", "60", *store), NO_ANSWER, "it has 6 requests"))
+        log = os.path.join(folder, "explained.log")
+        told = [(it.get("ParticipantObjectID"), it.get("ParticipantObjectTypeCode")) for it in patients_told(server.log, log, store)]
+        results.tell("audit with patients", None if told == [("1.2.9", "2"), ("P1", "1")] * 2 else str(told))
+        results.tell("explain of two stations", wrong(run("explain", "--station", "A", "--station", "B", *store), NO_ANSWER, "one station"))
+    with Server(program, "--keep", "1", "--store", file, "--store-other-settings"):
+        is_gone = holds(lambda: "removed by 7, Sweep by UPSD" in run("explain", "--step", "1.2.20.3", *store).out, 15)
+        results.tell("explain of a step that a sweep has removed", None if is_gone else run("explain", "--step", "1.2.20.3", *store).out)
 
 
 def try_watch(results: Results, program: list[str]) -> None:
@@ -1083,6 +1132,7 @@ def main() -> None:
         try_scripts(results, asked.program, folder)
         try_health(results, asked.program, folder)
         try_rescue(results, asked.program, folder)
+        try_explain(results, asked.program, folder)
         try_words(results, folder)
     try_strangers(results)
     try_allowed(results)

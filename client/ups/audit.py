@@ -13,6 +13,8 @@ from ups import NAME
 from ups.audit_lines import REFUSAL, Audited, LogLine, audited_of, logged_of, refusal_of
 from ups.audit_messages import activity_message, audit_message
 from ups.faults import Refused
+from ups.patients import Patient, patients_of
+from ups.stores import requests_of
 
 BEGINS = re.compile(r"run (\d+) begins with (\d+) requests")
 COMPACTED = re.compile(r"compacted from (\d+) requests to (\d+)(, in .*)?")
@@ -26,8 +28,9 @@ NOTED = 100_000  # audit lines that are kept until it is known that what they te
 class Trail:
     """What the lines of a log have told so far, in order: what has to be in the store at the next start, and who holds a step."""
 
-    def __init__(self, server: str) -> None:
+    def __init__(self, server: str, patients: dict[str, Patient]) -> None:
         self.server = server
+        self.patients = patients  # of steps
         self.run: Optional[int] = None  # the last run of the store, compactions among them
         self.removed = 0  # how many requests compactions have removed since that run began: a number in the store is less by these
         self.found: Optional[int] = None  # how many requests a start has found in the store, if it then compacts it
@@ -37,10 +40,10 @@ class Trail:
     def take(self, line: LogLine) -> list[str]:
         """Returns the messages that a line makes."""
         if line.text.startswith("[INFO  upsd] audit: "):
-            return [audit_message(self.note(audited_of(line)), self.server)]
+            return [self.message(self.note(audited_of(line)))]
         if line.text.startswith("[WARN  upsd] serve: "):
             refused = refusal_of(line)
-            return [audit_message(refused, self.server)] if refused else []
+            return [self.message(refused)] if refused else []
         if ended := ENDED.fullmatch(line.text):
             return [activity_message(line, self.server, ("110121", "Application Stop"), ended[1])]
         if line.text.startswith("[INFO  upsd] upsd "):
@@ -51,6 +54,9 @@ class Trail:
             return self.begin(int(begins[1]), int(begins[2]))
         self.follow(line.said)
         return []
+
+    def message(self, line: Audited) -> str:
+        return audit_message(line, self.server, self.patients.get(line.instance))
 
     def note(self, line: Audited) -> Audited:
         """Keeps what a line tells until it is known to be in the store; tells of a request to cancel whether the step is held."""
@@ -81,7 +87,7 @@ class Trail:
         self.run, self.removed, self.found = run, 0, None
         self.noted.clear()
         why = f"not kept: run {run} begins with {requests} requests"
-        return [audit_message(it._replace(outcome=REFUSAL, description=why), self.server) for it in lost]
+        return [self.message(it._replace(outcome=REFUSAL, description=why)) for it in lost]
 
     def follow(self, said: str) -> None:
         """Notes a compaction, and how much is in the store."""
@@ -98,7 +104,7 @@ class Trail:
 def audit(asked: argparse.Namespace) -> int:
     """Prints the audit messages of a log, each as soon as its line is read; returns 1 if an audit line can't be read."""
     worst = 0
-    trail = Trail(asked.called)
+    trail = Trail(asked.called, patients_of(requests_of(asked.upsd, asked.store).lines) if asked.with_patients else {})
     with contextlib.ExitStack() as opened:
         log = sys.stdin
         if asked.file != "-":

@@ -9,6 +9,7 @@ import xml.etree.ElementTree as ElementTree
 from typing import Optional
 
 from ups.audit_lines import GRANTED, OPERATIONS, REFUSAL, Audited, LogLine
+from ups.patients import Patient
 from ups.terms import IMPLICIT, PUSH
 
 TAGGED = re.compile(r"\(([0-9A-F]{4}),([0-9A-F]{4})\)")
@@ -97,14 +98,26 @@ def add_object(to: ElementTree.Element, line: Audited) -> None:
         ElementTree.SubElement(steps, "Instance", {"UID": line.instance})
 
 
+def add_patient(to: ElementTree.Element, patient: Patient) -> None:
+    """Adds the study and the patient of a step (PS3.15 section A.5.3), as far as it has them."""
+    for identifier, type_code, role, id_type in ((patient.study, "2", "3", ("110180", "Study Instance UID")),
+                                                 (patient.identifier, "1", "1", None)):  # a report of a system; a person, a patient
+        if identifier:
+            it = ElementTree.SubElement(to, "ParticipantObjectIdentification", {
+                "ParticipantObjectID": identifier, "ParticipantObjectTypeCode": type_code, "ParticipantObjectTypeCodeRole": role})
+            code, scheme, meaning = (id_type[0], "DCM", id_type[1]) if id_type else ("2", "RFC-3881", "Patient Number")
+            add_code(it, "ParticipantObjectIDTypeCode", code, scheme, meaning)
+            ElementTree.SubElement(it, "ParticipantObjectName").text = meaning
+
+
 def add_source(to: ElementTree.Element, server: str) -> None:
     source = ElementTree.SubElement(to, "AuditSourceIdentification", {"AuditSourceID": server})
     ElementTree.SubElement(source, "AuditSourceTypeCode", {"csd-code": "4"})  # an application server
 
 
-def audit_message(line: Audited, server: str) -> str:
+def audit_message(line: Audited, server: str, patient: Optional[Patient] = None) -> str:
     """Returns what a line of a server tells of a request as an audit message in one line, of the event Query, or else DICOM
-    Instances Accessed."""
+    Instances Accessed; with the patient of the step, if one is given."""
     message = ElementTree.Element("AuditMessage")
     add_event(message, line)
     if line.title is not None:
@@ -112,6 +125,8 @@ def audit_message(line: Audited, server: str) -> str:
     add_participant(message, server, line.title is None, ("110152", "Destination Role ID"), (line.machine or "", "1"))
     add_source(message, server)
     add_object(message, line)
+    if patient is not None:
+        add_patient(message, patient)
     return ElementTree.tostring(message, encoding="unicode")
 
 

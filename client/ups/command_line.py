@@ -19,6 +19,7 @@
     ups health
     ups verify --ae MONITOR --listen 11115
     ups audit /var/log/upsd.log
+    ups explain --at 20412 --state SCHEDULED --station R1
     ups board --port 8080 --ae BOARD --listen 11114
 
 Each command has its own --help with an example. A key or an attribute (-k) is a keyword, or the tag, with `=` and a value; one
@@ -49,14 +50,16 @@ from ups import NAME, UNKNOWN, VERSION, is_plugin
 from ups.audit import audit
 from ups.board import board
 from ups.changes import NEW, cancel, claim, create, import_steps, set_attributes
+from ups.explaining import explain
 from ups.finishing import finish
 from ups.judge import check
 from ups.monitoring import server_health, server_status
 from ups.options import (
-    add_attributes, add_keys, add_listening, add_performer, add_receiver, add_step, add_transaction, common, of_environment)
+    add_attributes, add_keys, add_listening, add_performer, add_receiver, add_step, add_store, add_transaction, common, of_environment)
 from ups.performer import work
 from ups.questions import echo, export, find, get
 from ups.rescue import rescue
+from ups.stores import STORE
 from ups.subscriptions import subscribe, suspend, unsubscribe
 from ups.terms import PRIORITIES, PULL, PUSH, VERIFICATION, WATCH
 from ups.verifying import verify
@@ -105,6 +108,9 @@ def add_questions(to: Commands) -> None:
     it = to.add("audit", audit, "prints a server's audit lines, refusals, starts and stops as audit messages (PS3.15 A.5), a line each",
                 "audit /var/log/upsd.log")
     it.add_argument("file", metavar="FILE", help="the log, with its times, or what journalctl -o short-iso prints (- for standard input)")
+    it.add_argument("--with-patients", action="store_true",
+                    help="names the patient and the study of each step, by a copy of the server's store, which may not leave the site")
+    add_store(it)
 
 
 def add_status(to: Commands) -> None:
@@ -181,11 +187,19 @@ def add_changes(to: Commands) -> None:
     add_work(to)
 
 
+def add_explain(to: Commands) -> None:
+    it = to.add("explain", explain, "says why a query finds each step, or doesn't: the request that decided it, by a copy of the server's store",
+                "explain --at 20412 --state SCHEDULED --station R1")
+    add_store(add_keys(it))
+    it.add_argument("--at", type=count_word, metavar="N", help="behind the first N requests, as an audit line says it (all)")
+    it.add_argument("--step", metavar="UID", help="of this step alone")
+
+
 def add_rescue(to: Commands) -> None:
     it = to.add("rescue", rescue, "tells who holds the steps, with each Transaction UID, by a copy of the server's store, and cancels one",
                 "rescue 1.2.3.1 --canceled --reason 'the workstation is gone'")
     it.add_argument("step", nargs="?", help="the SOP Instance UID of a step (all that are claimed)")
-    it.add_argument("--store", default="/var/lib/upsd/upsd.db", metavar="FILE", help="that of the server's --store (/var/lib/upsd/upsd.db)")
+    it.add_argument("--store", default=STORE, metavar="FILE", help=f"that of the server's --store ({STORE})")
     it.add_argument("--canceled", action="store_true", help="changes the step to CANCELED, under the Transaction UID of its claim")
     it.add_argument("--reason", help="with --canceled: Reason For Cancellation")
 
@@ -253,7 +267,7 @@ def add_watching(to: Commands) -> None:
 
 def parser() -> argparse.ArgumentParser:
     commands = Commands()
-    for add in (add_questions, add_status, add_health, add_verify, add_changes, add_watching):
+    for add in (add_questions, add_status, add_health, add_verify, add_explain, add_changes, add_watching):
         add(commands)
     return commands.whole
 

@@ -7,6 +7,7 @@ import os
 from typing import Any, Callable, Optional
 
 from ups.faults import Refused
+from ups.stores import STORE
 from ups.words import addresses_word, duration_word, flag_word, own_port_word, port_word, server_word, title_word
 
 
@@ -99,6 +100,12 @@ def add_keys(of: argparse.ArgumentParser, state: bool = True) -> argparse.Argume
                     help="the worklist of a station: a Code Value of Scheduled Station Name Code Sequence; several, of each of them")
     add_attributes(of, "a further key")
     return of
+
+
+def add_store(of: argparse.ArgumentParser) -> None:
+    """Adds the store whose requests `upsd history` tells."""
+    of.add_argument("--store", default=STORE, metavar="FILE", help=f"that of the server's --store ({STORE})")
+    of.add_argument("--upsd", default="upsd", metavar="PROGRAM", help="the program that tells its requests (upsd)")
 
 
 def add_receiver(of: argparse.ArgumentParser, step: bool = True) -> argparse.ArgumentParser:

@@ -6,20 +6,17 @@ import argparse
 import contextlib
 import datetime
 import functools
-import os
-import shutil
 import sqlite3
-import tempfile
 import time
 from typing import NamedTuple, Optional
 
 from ups.association import associated
 from ups.faults import Refused
 from ups.finishing import canceled, end_step
+from ups.stores import TRIES, copied
 from ups.tables import is_for_people, table
 from ups.terms import PULL, STATES, is_done, told
 
-TRIES = 5  # copies of a store that a server writes meanwhile
 HEADING = ["STEP", "HELD BY", "SINCE", "TRANSACTION UID"]
 CHANGES = "SELECT instance, title, moment, transaction_uid, state FROM request WHERE operation = 'change state' ORDER BY number"
 
@@ -55,17 +52,11 @@ def claims_of(store: str) -> list[Claim]:
     fault: Optional[Exception] = None
     for attempt in range(TRIES):
         time.sleep(attempt / 5)
-        with tempfile.TemporaryDirectory(prefix="ups-") as folder:
-            copy = os.path.join(folder, "store")
+        with copied(store) as copy:
             try:
-                shutil.copyfile(store, copy)
-                if os.path.exists(f"{store}-wal"):
-                    shutil.copyfile(f"{store}-wal", f"{copy}-wal")
                 return claims_in(copy)
             except sqlite3.Error as it:
                 fault = it
-            except OSError as it:
-                raise Refused(f"{it.filename or store}: {it.strerror}") from None
     raise Refused(f"{store} can't be read: {fault}")
 
 
