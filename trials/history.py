@@ -2,13 +2,17 @@
 """Tries whether answers can be checked: asks a server, ends it, and asks `upsd script --history` the same, behind the lines that
 `upsd history` prints of its store.
 
-    trials/history.py [PROGRAM] [--histories N] [--requests N] [--seed N]      (default: crates/upsd/out/upsd, 4, 60 and 1)
+    trials/history.py [PROGRAM] [--histories N] [--requests N] [--seed N] [--lines N]
+                                                                (default: crates/upsd/out/upsd, 4, 60, 1 and 200)
 
 A day has each kind of request: a step with a private element and a sequence whose last item has no elements, one that is
 claimed, set and completed, one that is canceled, subscriptions to one step, to all, and by keys, with a lock and without, by
 watchers one of whom has a quote in its title, their ends, and generated lives of steps. After each comes a query, whose audit line
 has the number of requests behind it: with as many lines of the history the same query has to get the same steps. A history of more
 requests than there are ends with status 2, as does one of a store that a server has open.
+
+A busy server has four performers, and two peers that ask by state, by label and for a step: each of their audit lines (--lines, half of
+each kind) has the number at which a script, told as many requests and no more, gives the answer that the peer got.
 
 Generated histories, with sweeps, acknowledgements and reports that wait, are told whole, and behind `upsd compact`, whose count of
 requests is the number of lines: both give what a server that starts on the store gives: the steps, their attributes, the events
@@ -21,16 +25,18 @@ It prints a line for each check, and in the end how many passed. It ends with st
 from __future__ import annotations
 
 import argparse
+import dataclasses
 import os
 import random
 import re
 import shlex
 import subprocess
 import sys
+import threading
 import time
 from collections.abc import Callable
 from multiprocessing.pool import ThreadPool
-from typing import Optional
+from typing import NamedTuple, Optional
 
 sys.path.insert(0, os.path.join(os.path.dirname(os.path.dirname(os.path.abspath(__file__))), "check/lib"))
 from dicom import data, items, step
@@ -40,7 +46,7 @@ from peer import FILTERED, GLOBAL, told
 from results import Results
 from stored import (FAULTS, READINESS, SECONDS, Client, Ended, Report, Stored, a_step_of, compacted, copy_of, ended, folder_for,
                     performed, text_in)
-from stored_days import KEEP, NAMES, Day, Picture, ask_holders, current, finish_some, live, picture_of, spend_day
+from stored_days import KEEP, NAMES, Day, Picture, ask_holders, current, finish_some, live, picture_of, spend_day, work
 
 TITLE = "BENCH"  # of the client that asks behind a history
 SHOWN = (SOP_INSTANCE, STATE, READINESS, LABEL)
@@ -241,6 +247,80 @@ def check_later(program: list[str], file: str, options: tuple[str, ...], results
     check_answer(program, file, count + 1, answer, results)
 
 
+# a busy server
+
+class Answered(NamedTuple):
+    """A question of a peer in the words of a script, and what was shown to it."""
+
+    words: str
+    shown: object
+
+
+def ask_one(client: Client, chance: random.Random, uids: list[bytes]) -> Answered:
+    """Asks for a step that was created, or by a key that some steps have."""
+    kind = chance.random()
+    if kind < 0.5 and uids:
+        uid = chance.choice(uids)
+        return Answered(f"get {uid.decode()} {GET}", texts(client.got(uid)))
+    tag, value = chance.choice(((STATE, b"IN PROGRESS"), (STATE, b"COMPLETED"), (LABEL, b"*"), (LABEL, b"NONE")))
+    found = steps_of(client.found((tag, value)))
+    return Answered(f"{FIND} {tag[0]:04X}{tag[1]:04X}={value.decode().replace(' ', '%20')}", found)
+
+
+def ask_on(port: int, title: bytes, seed: int, count: int, day: Day) -> list[Answered]:
+    """Asks so many questions, one after the other."""
+    client, chance = Client(port, title), random.Random(f"{seed} asks {title!r}")
+    asked = [ask_one(client, chance, list(day.uids)) for _ in range(count)]
+    client.release()
+    return asked
+
+
+def numbers_of(server: Stored, title: bytes) -> list[int]:
+    """Returns the numbers in the audit lines of the questions of a peer, in their order."""
+    form = re.compile(rf"audit: (?:Find|Get) #\d+ {title.decode()} .*, at (\d+)$")
+    return [int(it[1]) for line in server.lines("audit: (Find|Get)") if (it := form.search(line))]
+
+
+def differing_behind(program: list[str], whole: Ended, asked: list[tuple[int, Answered]]) -> list[str]:
+    """Asks each question again, behind as many requests as its line has, and returns which answers differ."""
+    script = Behind(program, dataclasses.replace(whole, output=""))
+    script.moment, wrong, lines = LATER, list[str](), whole.output.splitlines()
+    for number, it in sorted(asked, key=lambda pair: pair[0]):
+        while len(script.replies) < number:
+            script.replies.append(script.reply_to(lines[len(script.replies)]))
+        reply = script.replied(it.words)
+        if it.words.startswith("get"):
+            again: object = None if reply.startswith("C307") else texts(attributes_in(reply))
+        else:
+            again = steps_of([attributes_in(each) for each in re.findall(r"\[([^\]]*)\]", reply)])
+        if again != it.shown:
+            wrong.append(f"{it.words} at {number}: {again!r:.200} in place of {it.shown!r:.200}")
+    return wrong if script.close() == 0 else [*wrong, "the script fails"]
+
+
+def check_busy(program: list[str], folder: str, given: argparse.Namespace, results: Results) -> None:
+    """Checks what a busy server answered, line by line."""
+    file, day = os.path.join(folder, "busy"), Day()
+    peers = [f"{it}=127.0.0.1:{free_port()},lock" for it in NAMES]
+    titles, each = (b"ASKER1", b"ASKER2"), given.lines // 2
+    with Stored(program, file, "--keep", "86400", "--audit", *peers) as server:
+        performers = [threading.Thread(target=work, args=(server.port, it, 0, given.lines, given.seed, day)) for it in range(4)]
+        for it in performers:
+            it.start()
+        with ThreadPool(len(titles)) as pool:
+            answers = pool.starmap(ask_on, [(server.port, it, given.seed, each, day) for it in titles])
+        for it in performers:
+            it.join()
+        holds(lambda: all(len(numbers_of(server, it)) >= each for it in titles), 5)
+        numbers = [numbers_of(server, it) for it in titles]
+    asked = [pair for behind, told_to in zip(numbers, answers) for pair in zip(behind, told_to)]
+    results.tell("each question has its line", None if [len(it) for it in numbers] == [each] * 2 else str([len(it) for it in numbers]))
+    wrong = [*day.faults, *differing_behind(program, lines_of(program, file), asked)]
+    apart = len({number for number, _ in asked})
+    results.tell(f"{len(asked)} answers, behind {apart} numbers of requests, come again", "; ".join(wrong[:5]) or None)
+    results.tell("they were asked meanwhile", None if apart > given.lines // 10 else f"at {apart} numbers alone")
+
+
 # generated histories
 
 def events_told(reports: list[Report]) -> list[Event]:
@@ -320,7 +400,8 @@ def main() -> None:
     parser.add_argument("program", nargs="?", default=os.path.join(HERE, "crates/upsd/out/upsd"),
                         help="the program (default: crates/upsd/out/upsd, which `rt run` builds)")
     numbers: list[tuple[str, int, str]] = [("histories", 4, "how many histories are generated"), ("requests", 60, "how many requests each has"),
-                                           ("seed", 1, "what the first is generated from")]
+                                           ("seed", 1, "what the first is generated from"),
+                                           ("lines", 200, "how many audit lines of a busy server are asked again")]
     for name, default, about in numbers:
         parser.add_argument(f"--{name}", type=int, default=default, help=f"{about} (default: {default})")
     given, results = parser.parse_args(), Results()
@@ -329,6 +410,7 @@ def main() -> None:
             check_day([given.program], folder, given.seed, results)
         except (*FAULTS, ValueError, IndexError) as fault:
             results.tell("the day", repr(fault))
+        check_busy([given.program], folder, given, results)
         check_histories([given.program], folder, given, results)
     results.end("answers that are checked")
 
