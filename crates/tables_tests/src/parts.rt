@@ -193,26 +193,58 @@ put 1151 = 2001 2064 2065 1066-1128 1130-1149 2150 2151 1002
 remove 1066-1128 = 2001 2064 2065 1130-1149 2150 2151 1002
 push 1003 = 2001 2064 2065 1130-1149 2150 2151 1002-1003";
 
-/// Does what a row says.
-fn row_is_so(rt: &impl AllocGlobal, steps: &mut Steps<Global>, row: &str) -> Result<(), Fail> {
+/// Does what a row says. If `is_prepared`, rows are prepared before the query.
+fn row_is_so(
+    rt: &impl AllocGlobal,
+    steps: &mut Steps<Global>,
+    is_prepared: bool,
+    row: &str,
+) -> Result<(), Fail> {
     let (line, wanted) = cut(row, " = ")?;
     let (verb, range) = cut(line, " ")?;
     act_on_each(rt.alloc(), rt.alloc(), steps, verb, range)?;
+    if is_prepared {
+        steps.prepare(rt.alloc())?;
+    }
     let found = found(rt, rt.alloc(), steps)?;
     check_same(line, found.as_str(), ids_of(rt.alloc(), wanted)?.as_str())
 }
 
 /// Does what the rows say, one after the other.
-fn rows_are_so(rt: &impl AllocGlobal, steps: &mut Steps<Global>) -> Result<(), Fail> {
+fn rows_are_so(rt: &impl AllocGlobal, is_prepared: bool) -> Result<(), Fail> {
+    let mut steps = Steps::new(rt.alloc());
     for row in CALLS.lines() {
-        row_is_so(rt, steps, row)?;
+        row_is_so(rt, &mut steps, is_prepared, row)?;
     }
     Ok(())
 }
 
 #[test]
 fn a_query_sees_each_change_of_a_step_whose_rows_were_taken(rt: HostRuntime) -> Result<(), Fail> {
-    rows_are_so(&rt, &mut Steps::new(rt.alloc()))
+    rows_are_so(&rt, false)
+}
+
+#[test]
+fn a_query_sees_each_change_before_which_rows_were_prepared(rt: HostRuntime) -> Result<(), Fail> {
+    rows_are_so(&rt, true)
+}
+
+/// Adds 576 steps, which are nine parts, and tells of each of three calls whether it leaves more to prepare.
+fn prepared_of_nine(rt: &impl AllocGlobal) -> Result<(bool, bool, bool), Fail> {
+    let mut steps = Steps::new(rt.alloc());
+    act_on_each(rt.alloc(), rt.alloc(), &mut steps, "push", "1001-1576")?;
+    let first = steps.prepare(rt.alloc())?;
+    let second = steps.prepare(rt.alloc())?;
+    let third = steps.prepare(rt.alloc())?;
+    Ok((first, second, third))
+}
+
+#[test]
+fn a_call_prepares_eight_parts_and_tells_that_there_are_more(rt: HostRuntime) -> Result<(), Fail> {
+    check(
+        "eight, then one, then none",
+        prepared_of_nine(&rt)? == (true, false, false),
+    )
 }
 
 /// Takes the rows of all steps while the growth with this number is refused, and returns whether it succeeds. A query finds
@@ -235,26 +267,41 @@ fn is_taken<'a>(
     Ok(is_taken)
 }
 
-/// The same with a new table.
-fn is_taken_anew(rt: &impl AllocGlobal, growth: u64) -> Result<bool, Fail> {
+/// The same with a new table, whose rows are prepared if `is_prepared`.
+fn is_taken_anew(rt: &impl AllocGlobal, is_prepared: bool, growth: u64) -> Result<bool, Fail> {
     let heap = Refusing::new(rt.alloc());
     let mut steps = Steps::new(&heap);
     act_on_each(rt.alloc(), &heap, &mut steps, "push", "1001-1130")?;
+    if is_prepared {
+        steps.prepare(&heap)?;
+    }
     is_taken(rt, &heap, &mut steps, growth)
+}
+
+/// Returns the last growth that a query with a new table needs.
+fn last_growth(rt: &impl AllocGlobal, is_prepared: bool) -> Result<u64, Fail> {
+    let mut last = 0u64;
+    for growth in 1..60 {
+        if !is_taken_anew(rt, is_prepared, growth)? {
+            last = growth;
+        }
+    }
+    Ok(last)
 }
 
 #[test]
 fn a_query_finds_all_steps_after_one_for_which_a_growth_was_refused(
     rt: HostRuntime,
 ) -> Result<(), Fail> {
-    let mut refused = 0u64;
-    for growth in 1..60 {
-        if !is_taken_anew(&rt, growth)? {
-            refused = growth;
-        }
-    }
+    let last = last_growth(&rt, false)?;
     check(
         "each of three parts, and what holds them",
-        refused >= 6 && refused < 59,
+        last >= 6 && last < 59,
     )
+}
+
+#[test]
+fn a_query_makes_no_part_that_was_prepared(rt: HostRuntime) -> Result<(), Fail> {
+    let last = last_growth(&rt, true)?;
+    check("what holds three parts alone", last >= 1 && last <= 2)
 }

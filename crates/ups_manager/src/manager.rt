@@ -34,7 +34,7 @@ use crate::peers::{acked_at, all_pending, first_pending, made_at, waiting_at, wa
 use crate::reporting::reports_of;
 use crate::rows::{find, uids_of};
 use crate::submitting::{MOST_IN_MEMORY, most_in_memory};
-use crate::worklist::{row_of_step, rows_of_class};
+use crate::worklist::{prepare_rows, row_of_step, rows_of_class};
 use std::alloc::{AllocError, Allocator};
 use std::marker::Model;
 use ups_cycle::Status;
@@ -278,6 +278,15 @@ impl<A: Allocator + Copy> Manager<A> {
         let (is_more, next) = memory::let_go(configuration, history, tables, upto, *again);
         *again = next;
         is_more
+    }
+
+    /// Prepares some of the rows of all steps, so that a query without an indexed key finds them shared. A call prepares so
+    /// few that it takes no long time. Returns whether a further call may find more of them; false if memory runs out,
+    /// and the next such query then prepares what it needs.
+    pub(crate) fn prepare(&mut self) -> bool
+        ensures { self.new ≡ self.old }
+    {
+        prepare_rows(self.alloc, &mut self.tables)
     }
 
     /// Returns the UIDs of the held steps, in order of creation.

@@ -59,8 +59,10 @@ impl<A: Allocator + Copy> SharedService<A> for Manager<A> {
         Manager::waiting(self, ae)
     }
 
-    fn let_go(&mut self, upto: usize) -> bool {
-        Manager::let_go(self, upto)
+    fn maintain(&mut self, upto: usize) -> bool {
+        let can_let_go = Manager::let_go(self, upto);
+        let is_unprepared = self.prepare();
+        can_let_go || is_unprepared
     }
 
     fn look(&mut self, ask: &Ask<A>) -> Result<SharedRows<A>, AllocError> {

@@ -75,6 +75,14 @@ pub(crate) fn rows_of_class<A: Allocator + Copy>(
     }
 }
 
+/// Prepares some of the rows of all steps, so that `rows_of_class` finds them shared. The tables stay the same. Returns
+/// whether a further call may find more of them; false if memory runs out.
+pub(crate) fn prepare_rows<A: Allocator + Copy>(alloc: A, tables: &mut Tables<A>) -> bool
+    ensures { tables.new ≡ tables.old }
+{
+    tables.steps.prepare(alloc).unwrap_or(false)
+}
+
 /// Returns the row of a step, or none if no step is given or it is not held.
 ///
 /// Errors: if memory runs out. The step is held then.

@@ -27,10 +27,10 @@ module _ {A : Type 0} where
     seen = y.seen ∙ (ap (λ (l : List (Entry A)). l ++ y.between) x.seen ∙ append_assoc a.seen x.between y.between);
   }
 
-  -- a turn in which requests may leave memory, or none
-  pub let_go_watched : (r : Option Bool) (old new : PassView A) → MatchOption r (new ≡ old) (λ (more : Bool). HasObserved old new) → HasWatched old new
-  let_go_watched None old new is = subst (HasWatched old) (sym is) (watched_same old)
-  let_go_watched (Some more) old new h = record { same = h.same; calls = let next = h.calls in omega (arith, next); between = h.between; others = h.others; seen = h.seen }
+  -- a turn in which some of the work is done that no answer depends on, or none
+  pub maintain_watched : (r : Option Bool) (old new : PassView A) → MatchOption r (new ≡ old) (λ (more : Bool). HasObserved old new) → HasWatched old new
+  maintain_watched None old new is = subst (HasWatched old) (sym is) (watched_same old)
+  maintain_watched (Some more) old new h = record { same = h.same; calls = let next = h.calls in omega (arith, next); between = h.between; others = h.others; seen = h.seen }
 
   pub looked_same : (keeps : Bool) (p : PassView A) → LooksIfKept keeps p p
   looked_same true p = watched_same p

@@ -43,10 +43,10 @@ pub trait SharedService<A: Allocator + Copy>: Drop {
     fn waiting(&self, ae: Ae) -> usize
         ensures { result ≡ length (pending (state self.now).settings (past (state self.now).history) ae) };
 
-    /// Lets entries before the one at index `upto` of the history leave memory, if nothing that is asked later can need
-    /// them: some at each call, so that it takes no long time. No answer tells whether they have left. Returns whether
-    /// a further call can let more of them go.
-    fn let_go(&mut self, upto: usize) -> bool
+    /// Does some of the work that no answer depends on, so little at each call that nobody waits for long: lets entries
+    /// before the one at index `upto` of the history leave memory, if nothing that is asked later can need them, and
+    /// prepares rows for queries. Returns whether there is more to do.
+    fn maintain(&mut self, upto: usize) -> bool
         ensures state { state self.new ≡ state self.old }
         ensures asked { asked self.new ≡ asked self.old };
 

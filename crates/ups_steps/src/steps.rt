@@ -13,7 +13,7 @@ ghost use Rattle.ups_steps.specs.Held.{held_at, final_of, put_held, attributes_h
 
 use crate::held::HeldRow;
 use crate::iter::Iter;
-use crate::parts::{Parts, share_parts};
+use crate::parts::{Parts, make_parts, share_parts};
 use crate::places::{Places, add, close_up, find, free_each, replace};
 use indexmap::IndexMap;
 use std::alloc::{AllocError, Allocator};
@@ -138,6 +138,19 @@ impl<A: Allocator + Copy> Steps<A> {
         let Steps { places, parts, .. } = self;
         let shared = share_parts(parts, places, alloc)?;
         Ok(SharedRows::of_parts(shared))
+    }
+
+    /// Makes some of the parts of rows that [`Steps::rows`] would have to make, so that a query finds them. The table stays
+    /// the same. Returns whether a further call may find more of them.
+    ///
+    /// # Errors
+    ///
+    /// If memory runs out.
+    pub fn prepare(&mut self, alloc: A) -> Result<bool, AllocError>
+        ensures { self.new ≡ self.old }
+    {
+        let Steps { places, parts, .. } = self;
+        make_parts(parts, places, alloc)
     }
 
     /// Appends a step that is not held. It uses the room of one step.

@@ -17,7 +17,7 @@ use crate::held::Held;
 use crate::pass::Pass;
 use crate::rule::{DeskTable, InTurn, PassSeat};
 use crate::turn::{
-    COUNT, absorb, call_in_turn, deal, let_go_in_turn, look_in_turn, low_half, note,
+    COUNT, absorb, call_in_turn, deal, look_in_turn, low_half, maintain_in_turn, note,
     observe_in_turn, settle, waiting_in_turn,
 };
 use crate::view::{Opening, View};
@@ -396,11 +396,11 @@ impl<M: SharedService<A>, A: Allocator + Copy> Desk<M, A> {
         Some(count)
     }
 
-    /// Lets requests before the one at index `upto` of the history leave memory in a turn of the pass, if nothing that is
-    /// asked later can need them: some of them at each call, so that no other pass waits for long. No reply tells
-    /// whether they have left. This enters nothing, but counts as a call. Returns whether a further call can let more
-    /// of them go, or None, and does nothing, if the pass has made 2^40 calls.
-    pub fn let_go<R: Wait>(&self, rt: &R, pass: &mut Pass<M, A>, upto: usize) -> Option<bool>
+    /// Does some of the work that no answer depends on in a turn of the pass, so little at each call that no other pass
+    /// waits for long: lets requests before the one at index `upto` of the history leave memory, if nothing that is asked
+    /// later can need them, and prepares rows for queries. This enters nothing, but counts as a call. Returns whether
+    /// there is more to do, or None, and does nothing, if the pass has made 2^40 calls.
+    pub fn maintain<R: Wait>(&self, rt: &R, pass: &mut Pass<M, A>, upto: usize) -> Option<bool>
         requires here { pass.old.table ≡ self.now.table }
         ensures left { is_some result ≡ nat_lt pass.old.calls most_calls }
         ensures pass { MatchOption result (pass.new ≡ pass.old) (λ is_more. HasObserved pass.old pass.new) }
@@ -411,7 +411,7 @@ impl<M: SharedService<A>, A: Allocator + Copy> Desk<M, A> {
         }
         let _held = self.ticket_lock.lock(rt);
         let shelf = &self.table.shared;
-        let (is_more, seen) = let_go_in_turn(rt, shelf, &mut pass.place, pass.number, upto);
+        let (is_more, seen) = maintain_in_turn(rt, shelf, &mut pass.place, pass.number, upto);
         pass.front = seen;
         pass.calls += 1;
         Some(is_more)

@@ -88,12 +88,12 @@ impl<M: SharedService<A>, A: Allocator + Copy> Held<M, A> {
         self.shared.waiting(ae)
     }
 
-    /// Lets requests before the one at index `upto` leave memory, if nothing that is asked later can need them. Returns
-    /// whether a further call can let more of them go.
-    pub(crate) fn let_go(&mut self, upto: usize) -> bool
+    /// Does some of the work that no answer depends on, for which no request before the one at index `upto` has to stay in
+    /// memory. Returns whether there is more to do.
+    pub(crate) fn maintain(&mut self, upto: usize) -> bool
         ensures { self.new ≡ self.old }
     {
-        self.shared.let_go(upto)
+        self.shared.maintain(upto)
     }
 
     /// Returns the rows on which the reply to an N-GET or a query rests.

@@ -298,9 +298,9 @@ pub(crate) fn look_in_turn<M: SharedService<A>, A: Allocator + Copy, R: Wait>(
     (rows, entries)
 }
 
-/// Lets requests leave memory in the turn of a seat that rests: takes the manager, and gives it back with the same
-/// history. Returns whether more can be let go of, and the number of entered requests.
-pub(crate) fn let_go_in_turn<M: SharedService<A>, A: Allocator + Copy, R: Wait>(
+/// Does some of the work that no answer depends on in the turn of a seat that rests: takes the manager, and gives it back
+/// with the same history. Returns whether there is more to do, and the number of entered requests.
+pub(crate) fn maintain_in_turn<M: SharedService<A>, A: Allocator + Copy, R: Wait>(
     rt: &R,
     shelf: &DeskTable<M, A>,
     place: &mut PassSeat<M, A>,
@@ -317,7 +317,7 @@ pub(crate) fn let_go_in_turn<M: SharedService<A>, A: Allocator + Copy, R: Wait>(
     ensures standing { HasObserved (standing place.old.table_id number place.old.me.0) (standing place.new.table_id number place.new.me.0) }
 {
     let mut manager = take(rt, shelf, place);
-    let is_more = manager.let_go(upto);
+    let is_more = manager.maintain(upto);
     let entries = manager.entries();
     give(shelf, place, manager, 0);
     (is_more, entries)

@@ -19,13 +19,13 @@ loop-round-preserved g c =
     let paused = c.before_round-keeper.ensures in
     let once = c.sweep_once.ensures.sweeps in
     let more = swept_on c.args.options.now.config.ae _ _ once in
-    let lets = c.let_go.ensures.watched in
+    let lets = c.maintain.ensures.watched in
     let looks = subst (λ b. LooksIfKept b c.loop-round.pass c.before_round-keeper.new.pass) was.keeps paused.looks in
     record {
-      stays = c.let_go.ensures.stays ∙ (c.sweep_once.ensures.stays ∙ (paused.stays ∙ was.stays));
-      swept = simp unary_clauses (sweeps_more c.args.options.now.config.ae (is_some c.args.keeper) c.loop-round.round c.args.pass.now c.loop-round.pass c.before_round-keeper.new.pass c.sweep_once.new.pass c.let_go.new.pass was.swept looks once lets);
+      stays = c.maintain.ensures.stays ∙ (c.sweep_once.ensures.stays ∙ (paused.stays ∙ was.stays));
+      swept = simp unary_clauses (sweeps_more c.args.options.now.config.ae (is_some c.args.keeper) c.loop-round.round c.args.pass.now c.loop-round.pass c.before_round-keeper.new.pass c.sweep_once.new.pass c.maintain.new.pass was.swept looks once lets);
       keeps = paused.keeps ∙ was.keeps;
-      goes_on = go_on g.L.Ledger c.args.keeper c.loop-round.keeper c.before_round-keeper.result c.args.pass.now.seen c.loop-round.pass.seen c.let_go.new.pass.seen was.goes_on
+      goes_on = go_on g.L.Ledger c.args.keeper c.loop-round.keeper c.before_round-keeper.result c.args.pass.now.seen c.loop-round.pass.seen c.maintain.new.pass.seen was.goes_on
           (go_on g.L.Ledger _ _ _ _ _ _ paused.goes_on (go_on g.L.Ledger _ _ _ _ _ _ (go_longer g.L.Ledger c.before_round-keeper.result c.before_round-keeper.new.pass.seen c.sweep_once.new.pass.seen (more.0, sym more.1))
-          (go_longer g.L.Ledger c.before_round-keeper.result c.sweep_once.new.pass.seen c.let_go.new.pass.seen (lets.between, sym lets.seen))));
+          (go_longer g.L.Ledger c.before_round-keeper.result c.sweep_once.new.pass.seen c.maintain.new.pass.seen (lets.between, sym lets.seen))));
     }

@@ -1,6 +1,6 @@
 use Rattle.std.proofs.Common.{◌≡◌}
 use Rattle.ups_ledger.specs.Keeping.{HasWatched}
-use Rattle.ups_net.proofs.sweeping.let_go.Given as goal
+use Rattle.ups_net.proofs.sweeping.maintain.Given as goal
 
 abbrev pub invariant-loop : goal.invariant-loop
 invariant-loop g l = record {
