@@ -60,8 +60,8 @@ moment. A row may begin with what is short, as above, and ` | `: `end`, `break` 
 A section of `services` that goes `(line by line)` has lines of a script with their replies. Three other lines ask the program:
 `entries`, how many requests the history has; `size U1`, how many bytes the row of a step takes; `due N U1`, whether that step
 is to be removed at a moment, as the plain program says. A line that enters no request has to leave all that is reported of
-the steps U1 to U3 as it was; and after the last line the plain programs list the steps that are held, and those that W1 and
-W2 watch.
+the steps U1 to U3 as it was; and after the last line the plain programs list the steps that are held, and those that the
+peers W1, W2 and W3 watch.
 
 Bytes are written as words: hex digits, as often as a number after `*` says; text in quotes; the names of the SOP classes, such
 as PUSH; and the names of bytes: of the stored PDUs in crates/fixtures/src/vectors.rt, and of the sections whose heading begins

@@ -20,7 +20,7 @@ SETTINGS = {"history": ",history={}", "offset": ",offset={}"}
 STEPS = ("1.2.3.1", "1.2.3.2", "1.2.3.3")
 # the attributes that are shown of each step, except long values, and the lines that report all of three steps
 SHOWN = "00080018 00100010 00404005 00404041 00741000 00741002 00741200 00741202 00741204 00741216"
-LISTS = "0 P1 held\n0 W1 watches\n0 W2 watches\n"
+LISTS = "0 P1 held\n0 W1 watches\n0 W2 watches\n0 W3 watches\n"
 ALL = "".join(f"0 P1 get {it} {SHOWN}\n0 P1 holder {it}\n" for it in STEPS) + LISTS + "0 W1 pending 99\n0 W2 pending 99\n"
 
 Befores = Mapping[str, list[str]]  # by the name of each: the texts of the associations before a service

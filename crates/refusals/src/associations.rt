@@ -1,7 +1,7 @@
 //! An association that a peer asks for, or that this side asks W1 for, over devices that may fail.
 
 use crate::devices::Interrupted;
-use crate::lines::{no_course, title_of};
+use crate::lines::{lacking, text_of, title_of};
 use crate::options::{ServiceKind, ServicePart};
 use crate::parts::{PartEnd, add_end};
 use std::alloc::{Allocator, Global};
@@ -124,7 +124,7 @@ pub(crate) fn add_association<A: Allocator + Copy>(
     let mut gate = ListGate::new(alloc, moments);
     let mut taken = CutWriter::new(alloc, part.room);
     let end = ended(heap, manager, &mut gate, &mut taken, part, given)?;
-    add_end(alloc, text, taken.written(), end, manager.history().len())?;
+    add_end(alloc, text, taken.written(), end, manager.entries())?;
     add_more(text, manager, part, gate.calls())
 }
 
@@ -156,9 +156,7 @@ fn add_calls(text: &mut String, calls: &[GateCall]) -> io::Result<()> {
 /// Adds the caller, the title and the moment of each entry.
 fn add_entries<A: Allocator + Copy>(text: &mut String, history: &[Entry<A>]) -> io::Result<()> {
     for entry in history {
-        let Ok(title) = std::str::from_utf8(entry.ae.as_bytes()) else {
-            return Err(no_course());
-        };
+        let title = text_of(entry.ae.as_bytes())?;
         write!(text, " {} {title} {}", entry.caller, entry.moment)?;
     }
     Ok(())
@@ -170,7 +168,7 @@ fn add_entries<A: Allocator + Copy>(text: &mut String, history: &[Entry<A>]) -> 
 fn add_pending<A: Allocator + Copy>(text: &mut String, manager: &Manager<A>) -> io::Result<()> {
     text.push_str(", pending")?;
     let Reply::Reports(reports) = manager.pending(title_of(b"W1")?, u64::MAX) else {
-        return Err(io::Error::from(io::ErrorKind::OutOfMemory));
+        return Err(lacking());
     };
     for report in reports.as_slice() {
         write!(text, " {}", report.event.number)?;

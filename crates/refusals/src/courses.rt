@@ -1,5 +1,6 @@
 //! A course: parts that one service handles, one after the other.
 
+use crate::lasting::add_lasting;
 use crate::lines::{no_course, title_of};
 use crate::options::CourseSettings;
 use crate::parts::add_part;
@@ -10,7 +11,7 @@ use ups_life::Peer;
 use ups_manager::Manager;
 
 /// The number of seconds for which a finished step is kept.
-const KEEP: u32 = 60;
+pub(crate) const KEEP: u32 = 60;
 
 /// Runs the course of a line, refusing one growth of its service, and returns its outcome.
 ///
@@ -25,6 +26,24 @@ pub(crate) fn course_of(alloc: Global, line: &str) -> io::Result<String> {
     Ok(text)
 }
 
+/// Returns the peers, of which W2 may not lock steps.
+pub(crate) fn three_peers() -> io::Result<[Peer; 3]> {
+    Ok([
+        Peer {
+            ae: title_of(b"W1")?,
+            lock: true,
+        },
+        Peer {
+            ae: title_of(b"W2")?,
+            lock: false,
+        },
+        Peer {
+            ae: title_of(b"W3")?,
+            lock: true,
+        },
+    ])
+}
+
 /// Runs a course, refusing the growth that the settings name, and adds its outcome and whether a growth was refused.
 fn add_course(
     alloc: Global,
@@ -32,6 +51,9 @@ fn add_course(
     settings: CourseSettings,
     parts: &str,
 ) -> io::Result<()> {
+    if settings.is_lasting {
+        return add_lasting(alloc, text, settings.offset, parts);
+    }
     let heap = Refusing::new(alloc);
     heap.refuse(settings.refused);
     add_parts(alloc, &heap, text, settings, parts)?;
@@ -42,8 +64,6 @@ fn add_course(
 
 /// Runs each part of a course with a new service, and adds its outcome; adds nothing if there is no memory for a
 /// service.
-///
-/// W1 may lock steps, and W2 may not.
 fn add_parts<A: Allocator + Copy>(
     alloc: Global,
     heap: A,
@@ -51,16 +71,13 @@ fn add_parts<A: Allocator + Copy>(
     settings: CourseSettings,
     parts: &str,
 ) -> io::Result<()> {
-    let first = Peer {
-        ae: title_of(b"W1")?,
-        lock: true,
-    };
-    let second = Peer {
-        ae: title_of(b"W2")?,
-        lock: false,
-    };
-    let peers = [first, second];
-    match Manager::new(heap, &peers, KEEP, settings.offset, settings.history) {
+    match Manager::new(
+        heap,
+        &three_peers()?,
+        KEEP,
+        settings.offset,
+        settings.history,
+    ) {
         Ok(mut manager) => add_each(alloc, heap, &mut manager, text, parts),
         Err(_) => Ok(()),
     }

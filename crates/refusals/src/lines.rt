@@ -1,9 +1,12 @@
 //! The words of a line, and the errors for an invalid one.
 
+ghost use Rattle.std.specs.Prelude.{IfOk};
+ghost use Rattle.ups_life.specs.Settings.{IsMoment};
+
 use hex::FromHexError;
 use std::alloc::Global;
 use std::io::{self, ErrorKind};
-use ups_life::StepUid;
+use ups_life::{MAX_MOMENT, StepUid};
 use ups_pdu::{Ae, Uid};
 
 /// Returns the error for an invalid line.
@@ -30,6 +33,33 @@ pub(crate) fn number_of(text: &str) -> io::Result<u16> {
         Ok(number) => Ok(number),
         Err(_) => Err(no_course()),
     }
+}
+
+/// Parses a moment, in seconds since 1970-01-01 UTC.
+///
+/// Errors: InvalidData if the text is not a moment.
+pub(crate) fn moment_of(text: &str) -> io::Result<u64>
+    ensures { IfOk result IsMoment }
+{
+    match text.parse::<u64>() {
+        Ok(moment) if moment <= MAX_MOMENT => Ok(moment),
+        _ => Err(no_course()),
+    }
+}
+
+/// Returns bytes as a text.
+///
+/// Errors: InvalidData if they are none.
+pub(crate) fn text_of(bytes: &[u8]) -> io::Result<&str> {
+    match std::str::from_utf8(bytes) {
+        Ok(text) => Ok(text),
+        Err(_) => Err(no_course()),
+    }
+}
+
+/// Returns the error for lack of memory.
+pub(crate) fn lacking() -> io::Error {
+    io::Error::from(ErrorKind::OutOfMemory)
 }
 
 /// Returns the title with these letters.

@@ -7,11 +7,13 @@ use ups_life::MAX_HISTORY;
 /// The maximum number of PDUs read in an association, and of lines in a script, unless an option says otherwise.
 const TURNS: u16 = 60_000;
 
-/// The growth that is refused in a course, the limit of the history in requests, and the local time.
+/// The growth that is refused in a course, the limit of the history in requests, whether it has none, and the local time.
 #[derive(Clone, Copy, Debug, PartialEq, Eq)]
 pub(crate) struct CourseSettings {
     pub(crate) refused: u64,
     pub(crate) history: u64,
+    /// Whether the history has no end, so that requests may leave memory. No growth is refused then.
+    pub(crate) is_lasting: bool,
     /// In minutes east of UTC.
     pub(crate) offset: i16,
 }
@@ -28,6 +30,7 @@ impl CourseSettings {
         let mut settings = CourseSettings {
             refused,
             history: MAX_HISTORY,
+            is_lasting: false,
             offset: 0,
         };
         for option in options.split_terminator(',') {
@@ -38,6 +41,10 @@ impl CourseSettings {
 
     /// Applies an option.
     fn set(&mut self, option: &str) -> io::Result<()> {
+        if option == "lasting" {
+            self.is_lasting = true;
+            return Ok(());
+        }
         if let Some(number) = option.strip_prefix("history=") {
             self.history = u64::from(number_of(number)?);
             return Ok(());
@@ -60,12 +67,18 @@ pub(crate) enum ServiceKind {
     Deliver,
     /// A script is answered.
     Script,
+    /// Events are acknowledged, but for the newest.
+    Ack,
     /// The plain programs list the steps.
     Plain,
+    /// The plain program finds steps.
+    Find,
     /// The plain program tells whether a step is due.
     Due,
     /// The row of a step is measured.
     Size,
+    /// The events of each peer are counted.
+    Counts,
 }
 
 impl ServiceKind {
@@ -75,6 +88,7 @@ impl ServiceKind {
             "serve" => Some(ServiceKind::Serve),
             "deliver" => Some(ServiceKind::Deliver),
             "script" => Some(ServiceKind::Script),
+            "ack" => Some(ServiceKind::Ack),
             _ => ServiceKind::of_question(word),
         }
     }
@@ -83,8 +97,10 @@ impl ServiceKind {
     fn of_question(word: &str) -> Option<ServiceKind> {
         match word {
             "plain" => Some(ServiceKind::Plain),
+            "find" => Some(ServiceKind::Find),
             "due" => Some(ServiceKind::Due),
             "size" => Some(ServiceKind::Size),
+            "counts" => Some(ServiceKind::Counts),
             _ => None,
         }
     }

@@ -2,9 +2,9 @@
 //! the service.
 
 use crate::associations::add_association;
-use crate::lines::{bytes_of, no_course};
+use crate::lines::{bytes_of, no_course, number_of, text_of, title_of};
 use crate::options::{ServiceKind, ServicePart};
-use crate::plainly::{due_of, lists_of, size_of};
+use crate::plainly::{counts_of, due_of, found_by, lists_of, size_of};
 use std::alloc::{Allocator, Global};
 use std::io;
 use ups_manager::Manager;
@@ -70,8 +70,26 @@ fn add_script<A: Allocator + Copy>(
         text,
         &output,
         end_of_script(ended),
-        manager.history().len(),
+        manager.entries(),
     )
+}
+
+/// Acknowledges the events of a peer, and adds the outcome. Given are the moment, the title and the number that is less by
+/// one than how many of the newest events are left out, so that 0 acknowledges one event too many.
+fn add_ack<A: Allocator + Copy>(
+    alloc: Global,
+    heap: A,
+    manager: &mut Manager<A>,
+    text: &mut String,
+    given: &[u8],
+) -> io::Result<()> {
+    let (front, less) = text_of(given)?.rsplit_once(' ').unwrap_or(("", ""));
+    let (_, title) = front.split_once(' ').unwrap_or(("", ""));
+    let made = manager.events_made(title_of(title.as_bytes())?);
+    let less = u64::from(number_of(less)?);
+    let upto = made.saturating_add(1).saturating_sub(less);
+    let line = format!(in alloc; "{front} ack {upto}\n")?;
+    add_script(alloc, heap, manager, text, 1, line.as_bytes())
 }
 
 /// Adds the answer to a question about the service.
@@ -86,6 +104,8 @@ fn add_told<A: Allocator + Copy>(
     let told = match kind {
         ServiceKind::Due => due_of(alloc, heap, manager, given)?,
         ServiceKind::Size => size_of(alloc, manager, given)?,
+        ServiceKind::Find => found_by(alloc, heap, manager, given)?,
+        ServiceKind::Counts => counts_of(alloc, manager)?,
         _ => lists_of(alloc, heap, manager)?,
     };
     add_end(
@@ -93,7 +113,7 @@ fn add_told<A: Allocator + Copy>(
         text,
         told.as_bytes(),
         PartEnd::Done,
-        manager.history().len(),
+        manager.entries(),
     )
 }
 
@@ -130,8 +150,7 @@ fn add_by_kind<A: Allocator + Copy>(
             alloc, heap, manager, text, part, given,
         ),
         ServiceKind::Script => add_script(alloc, heap, manager, text, part.turns, given),
-        ServiceKind::Plain | ServiceKind::Due | ServiceKind::Size => {
-            add_told(alloc, heap, manager, text, part.kind, given)
-        }
+        ServiceKind::Ack => add_ack(alloc, heap, manager, text, given),
+        _ => add_told(alloc, heap, manager, text, part.kind, given),
     }
 }
