@@ -38,6 +38,7 @@ CHECKS = [
     trial("check/typed.py", needs="mypy"), trial("check/typed.py --self-test", name="typed_themselves", needs="mypy"),
     trial("check/rows.py {rows} --program {upsd} --readings {readings} --refusals {refusals}"),
     trial("check/vectors.py --program {upsd}"), trial("check/vectors.py --self-test --program {upsd}", name="vectors_themselves"),
+    trial("check/histories.py {refusals}"), trial("check/histories.py {refusals} --self-test", name="histories_themselves"),
     trial("check/many.py {upsd}"), trial("check/sharing.py {upsd} --endings {endings}"),
     trial("check/failures.py {rows} --program {upsd} --refusals {refusals}", LONG),
 ]
