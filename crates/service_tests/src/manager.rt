@@ -5,30 +5,30 @@ ghost use Rattle.std.specs.Prelude.{[], ◌∷◌};
 ghost use Rattle.ups_life.specs.Settings.{IsMoment};
 ghost use Rattle.ups_service.specs.Law.{Calls};
 
+use fixtures::words::message_of;
 use fixtures::{a_step, described, put_item, put_text, tag_of, title, uid};
 use std::alloc::{Allocator, Global};
 use std::test::Fail;
 use ups_cycle::StepState;
 use ups_dataset::DataSet;
 use ups_dimse::Tags;
-use ups_life::{Ask, Entry, MAX_MOMENT, Reply, Request, StepUid, Transaction};
+use ups_life::{Ask, Entry, MAX_MOMENT, Peer, Reply, Request, StepUid, Transaction, read_request};
 use ups_manager::*;
 use ups_match::Keys;
 use ups_pdu::{Ae, Uid};
 
-mod compacted;
 mod counted;
 mod entries;
-mod histories;
+mod filters;
 mod lasting;
 mod memory;
-mod plain;
 mod starting;
-mod twin;
-mod words;
 
 /// The steps that the tests create.
 const STEPS: [&str; 3] = ["1.2.3.1", "1.2.3.2", "1.2.3.3"];
+
+/// The offset of the local time, in minutes, in which keys are read.
+const OFFSET: i16 = 60;
 
 /// The verb of a line.
 #[derive(Clone, Copy)]
@@ -47,7 +47,8 @@ enum Verb {
 /// A line is the number of the caller, the title of the application entity, the moment, the verb, the step, its new
 /// state and the Transaction UID, with `-` if there is none, and after a bar the attributes, separated by bars, with
 /// those of an item after a slash. A new step has them in addition to the usual ones. After the verb `words` the step
-/// and what follows it mean nothing, and after the bar come the words of a request, as in the histories.
+/// and what follows it mean nothing, and after the bar come the words of a message (`fixtures::words`), an
+/// acknowledgement or a sweep.
 #[derive(Clone, Copy)]
 struct Line {
     caller: u32,
@@ -190,12 +191,28 @@ fn request_of<A: Allocator + Copy>(line: &Line, attributes: DataSet<A>) -> Reque
     }
 }
 
+/// Returns the request of these words.
+fn worded<A: Allocator + Copy>(alloc: A, text: &str) -> Result<Request<A>, Fail> {
+    if text == "sweep" {
+        return Ok(Request::Sweep);
+    }
+    if let Some(number) = text.strip_prefix("ack ") {
+        let upto = number.parse::<u64>()?;
+        return Ok(Request::Ack { upto });
+    }
+    let (operation, set) = message_of(alloc, text)?;
+    match read_request(alloc, &operation, set, OFFSET) {
+        Ok(Ask::Do(request)) => Ok(request),
+        _ => Err("no request".into()),
+    }
+}
+
 /// Returns what a line with these attributes asks.
 fn ask_of<A: Allocator + Copy>(alloc: A, line: &Line, attributes: &str) -> Result<Ask<A>, Fail> {
     let own = match line.verb {
         Verb::Create => a_step(alloc)?,
         Verb::Find => return Ok(Ask::Find(keys_of(alloc, attributes)?)),
-        Verb::Words => return Ok(Ask::Do(histories::request_of(alloc, attributes)?)),
+        Verb::Words => return Ok(Ask::Do(worded(alloc, attributes)?)),
         Verb::Get => {
             return Ok(Ask::Get {
                 step: Some(line.step),
@@ -235,6 +252,34 @@ fn reply_to<A: Allocator + Copy>(
     } else {
         manager.answer_as(line.caller, line.ae, line.moment, ask)
     })
+}
+
+/// Returns three peers, two of which may lock steps.
+fn three_peers() -> Result<[Peer; 3], Fail> {
+    Ok([
+        Peer {
+            ae: title("W1")?,
+            lock: true,
+        },
+        Peer {
+            ae: title("W2")?,
+            lock: true,
+        },
+        Peer {
+            ae: title("W3")?,
+            lock: false,
+        },
+    ])
+}
+
+/// Returns a manager with three peers.
+fn a_manager<A: Allocator + Copy>(alloc: A) -> Result<Manager<A>, Fail> {
+    Ok(Manager::new(alloc, &three_peers()?, 60, OFFSET, 1_000)?)
+}
+
+/// Returns a manager with the same peers whose history has no end.
+fn a_lasting_manager<A: Allocator + Copy>(alloc: A) -> Result<Manager<A>, Fail> {
+    Ok(Manager::lasting(alloc, &three_peers()?, 60, OFFSET)?)
 }
 
 /// Returns the number of the status of a reply, or 0xFFFF if it says that an acknowledgement is ahead or stale, which

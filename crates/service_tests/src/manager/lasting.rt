@@ -1,8 +1,7 @@
 //! A manager whose history has no end: what it remembers of requests that have left memory.
 
 use super::counted::rows_are_so;
-use super::histories::a_lasting_manager;
-use super::{answer_to, text_of};
+use super::{a_lasting_manager, answer_to};
 use fixtures::rows::{check, check_same};
 use fixtures::{described, title};
 use std::alloc::{Allocator, Global};

@@ -1,8 +1,8 @@
 use super::counted::counts;
-use super::histories::{a_lasting_manager, a_manager};
 use super::lasting::{MANY, PASSING, put_reports};
 use super::{
-    STEPS, answer_to, ask_of, keys_of, line_of, picture, reply_to, step_of, text_of, told,
+    STEPS, a_lasting_manager, a_manager, answer_to, ask_of, keys_of, line_of, picture, reply_to,
+    step_of, text_of, told,
 };
 use fixtures::rows::{check, cut, cut_twice, number};
 use fixtures::{Refusing, title};
