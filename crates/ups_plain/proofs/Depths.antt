@@ -1,6 +1,6 @@
 -- Over a legal history no walk meets what nests too deep.
 use Rattle.std.proofs.Common.{◌≡◌, ℕ, ◌<◌, ◌≤◌, ◌+◌, ℤ, Bool, true, false, not, ◌&&◌, List, [], ◌∷◌, ◌++◌, length, take, drop, get_or, None, Some, Result, Ok, Err, IfErr, refl, sym, ap, subst, ◌∙◌, arith}
-use Rattle.std.specs.Prelude.{max, nat_lt, if◌then◌else◌, MatchResult}
+use Rattle.std.specs.Prelude.{max, nat_lt, if◌then◌else◌}
 use Rattle.std.specs.Option.{unwrap_or}
 use Rattle.std.proofs.lemmas.Bool.Decides.{nat_tests}
 use Rattle.std.proofs.lemmas.List.{reverse-append, take-append-drop}
@@ -27,7 +27,7 @@ use Rattle.ups_life.specs.Steps.{past, step_of, is_on, state, row_of, row_after,
 use Rattle.ups_life.specs.Watching.{is_held, known}
 use Rattle.ups_life.specs.History.{accepts, fits, is_sized, reply, legal}
 use Rattle.ups_life.specs.Deep.{IsShallow, ChangeFails, WalkFails}
-use Rattle.ups_life.proofs.Accepted.{said, succeeded, fitted, was_held, differ}
+use Rattle.ups_life.proofs.Accepted.{said, succeeded, fitted, was_held}
 use Rattle.ups_rules.proofs.Cancels.{new_shallow, set_shallow}
 use Rattle.ups_life.proofs.Rows.{past_more}
 use Rattle.ups_life.proofs.Texts.{same_text}
@@ -124,10 +124,6 @@ pub fails_later : {A : Type 0} (s : Settings) (e : Entry A) (es : List (Entry A)
 fails_later s e es TooDeep f = none_of_both (accepts (reply s es e)) (legal s es) f
 fails_later s e es Memory f = tt
 
--- the same, where the longer history is given
-pub fails_after : {A : Type 0} (s : Settings) (e : Entry A) (es so_far : List (Entry A)) (fault : ChangeFault) → so_far ≡ e ∷ es → WalkFails s es fault → WalkFails s so_far fault
-fails_after {A} s e es so_far fault is f = subst (λ (l : List (Entry A)). WalkFails s l fault) (sym is) (fails_later s e es fault f)
-
 any_later : {A : Type 0} (s : Settings) (later es : List (Entry A)) (fault : ChangeFault) → WalkFails s es fault → WalkFails s (later ++ es) fault
 any_later s [] es fault f = f
 any_later s (e ∷ later) es fault f = fails_later s e (later ++ es) fault (any_later s later es fault f)
@@ -142,10 +138,6 @@ fails_within {A} s history n fault f =
 pub result_within : {A T : Type 0} (s : Settings) (history : List (Entry A)) (n : ℕ) (r : Result T ChangeFault) → IfErr r (WalkFails s (past (take n history))) → IfErr r (WalkFails s (past history))
 result_within s history n (Ok x) f = tt
 result_within s history n (Err fault) f = fails_within s history n fault f
-
-pub result_after : {A T : Type 0} (s : Settings) (e : Entry A) (es so_far : List (Entry A)) (r : Result T ChangeFault) (P : T → Type 0) → so_far ≡ e ∷ es → MatchResult r P (WalkFails s es) → MatchResult r P (WalkFails s so_far)
-result_after s e es so_far (Ok x) P is f = f
-result_after s e es so_far (Err fault) P is f = fails_after s e es so_far fault is f
 
 -- A WALK
 

@@ -1,5 +1,4 @@
 mod Depths
 mod Filters
-mod Reports
 mod Walked
 mod Walks

@@ -2,10 +2,8 @@
 //! definition of its answer. Tests compare the answers from tables with them.
 #![tactic(auto)]
 
-mod reporting;
 mod rows;
 mod walking;
 
-pub use reporting::{acked, plain_events, plain_pending};
 pub use rows::{plain_find, repeats, used};
 pub use walking::{is_due, plain_held, plain_watches, watched_among};

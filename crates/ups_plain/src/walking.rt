@@ -1,6 +1,6 @@
 //! The steps that are held, and who watches them, found by walking the history: plain and slow.
 
-ghost use Rattle.std.specs.Prelude.{◌≡◌, ◌<◌, ◌≤◌, ◌+◌, ◌-◌, ◌∷◌, [], ◌++◌, ◌&&◌, length, take, not, filter, is_some, All, Some, None, IfOk, IfErr, OnOk, MatchResult, if◌then◌else◌};
+ghost use Rattle.std.specs.Prelude.{◌≡◌, ◌<◌, ◌≤◌, ◌+◌, ◌∷◌, [], ◌++◌, ◌&&◌, length, take, not, filter, is_some, All, Some, None, IfOk, IfErr, OnOk, MatchResult, if◌then◌else◌};
 ghost use Rattle.std.specs.List.{filter_map};
 ghost use Rattle.std.specs.Str.{bytes_eq};
 ghost use Rattle.ups_match.specs.Matching.{is_match};
@@ -35,11 +35,7 @@ fn granted(peers: &[Peer], ae: Ae, lock: bool) -> Subscription
 }
 
 /// Returns whether a subscription to this target includes a step with these attributes.
-pub(crate) fn takes_in<A: Allocator + Copy>(
-    target: &Target<A>,
-    step: StepUid,
-    attributes: &DataSet<A>,
-) -> bool
+fn takes_in<A: Allocator + Copy>(target: &Target<A>, step: StepUid, attributes: &DataSet<A>) -> bool
     ensures { result ≡ takes_in target.now step attributes.now }
 {
     match target {
@@ -113,7 +109,7 @@ fn cover_after<A: Allocator + Copy>(
 
 /// Returns how a watcher's global subscription subscribes it to a step with these attributes, or None if it does not
 /// (PS3.4 CC.2.3).
-pub(crate) fn cover<A: Allocator + Copy>(
+fn cover<A: Allocator + Copy>(
     peers: &[Peer],
     entries: &[Entry<A>],
     ae: Ae,
@@ -134,7 +130,7 @@ fn same_step(step: StepUid, other: StepUid) -> bool
     step.as_bytes() == other.as_bytes()
 }
 
-pub(crate) fn same_ae(ae: Ae, other: Ae) -> bool
+fn same_ae(ae: Ae, other: Ae) -> bool
     ensures { result ≡ bytes_eq ae other }
 {
     ae.as_bytes() == other.as_bytes()
@@ -430,57 +426,10 @@ fn watch_after<A: Allocator + Copy>(
     }
 }
 
-/// How a watcher is subscribed to a step before and after the last entry of a history.
-#[derive(Clone, Copy)]
-pub(crate) struct Watching {
-    pub(crate) before: Option<Subscription>,
-    pub(crate) after: Option<Subscription>,
-}
-
-/// Returns how a watcher is subscribed to a step that is held (PS3.4 CC.2.3) before and after the last of these
-/// entries, with None if it is not.
-///
-/// Errors: those of `row`.
-pub(crate) fn watch_last<A: Allocator + Copy>(
-    alloc: A,
-    configuration: &Configuration<A>,
-    entries: &[Entry<A>],
-    ae: Ae,
-    step: StepUid,
-) -> Result<Watching, ChangeFault>
-    requires moments { All (λ e. IsMoment e.moment) entries.now }
-    requires offset { IsOffset configuration.now.offset }
-    ensures before { IfOk result (λ found. found.before ≡ watch configuration.now (past (take (length entries.now - 1) entries.now)) ae step) }
-    ensures after { IfOk result (λ found. found.after ≡ watch configuration.now (past entries.now) ae step) }
-    ensures memory { IfErr result (WalkFails configuration.now (past entries.now)) }
-{
-    let mut before = None;
-    let mut after = None;
-    let mut filter = None;
-    let mut walk = unwalked(alloc);
-    for (place, entry) in entries.iter().enumerate() {
-        before = after;
-        after = watch_after(
-            alloc,
-            configuration,
-            entries,
-            place,
-            filter,
-            &mut walk,
-            entry,
-            ae,
-            step,
-            before,
-        )?;
-        filter = filter_after(ae, filter, &entry.request);
-    }
-    Ok(Watching { before, after })
-}
-
 /// Returns how a watcher is subscribed to a step that is held (PS3.4 CC.2.3), or None if it is not.
 ///
 /// Errors: those of `row`.
-pub(crate) fn watch<A: Allocator + Copy>(
+fn watch<A: Allocator + Copy>(
     alloc: A,
     configuration: &Configuration<A>,
     entries: &[Entry<A>],
@@ -491,8 +440,25 @@ pub(crate) fn watch<A: Allocator + Copy>(
     requires offset { IsOffset configuration.now.offset }
     ensures { MatchResult result (λ found. found ≡ watch configuration.now (past entries.now) ae step) (WalkFails configuration.now (past entries.now)) }
 {
-    let found = watch_last(alloc, configuration, entries, ae, step)?;
-    Ok(found.after)
+    let mut found = None;
+    let mut filter = None;
+    let mut walk = unwalked(alloc);
+    for (place, entry) in entries.iter().enumerate() {
+        found = watch_after(
+            alloc,
+            configuration,
+            entries,
+            place,
+            filter,
+            &mut walk,
+            entry,
+            ae,
+            step,
+            found,
+        )?;
+        filter = filter_after(ae, filter, &entry.request);
+    }
+    Ok(found)
 }
 
 /// Returns whether a subscription has a Deletion Lock.
@@ -540,17 +506,6 @@ fn state_after<A: Allocator + Copy>(
     } else {
         before
     }
-}
-
-/// Returns the state of a step.
-pub(crate) fn state<A: Allocator + Copy>(entries: &[Entry<A>], step: StepUid) -> StepState
-    ensures { result ≡ state (past entries.now) step }
-{
-    let mut state = StepState::Scheduled;
-    for entry in entries {
-        state = state_after(step, state, &entry.request);
-    }
-    state
 }
 
 /// Returns when the state of a step became final, after an entry, which may be on another step; `state` is the state
