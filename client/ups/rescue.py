@@ -7,13 +7,12 @@ import contextlib
 import datetime
 import functools
 import sqlite3
-import time
 from typing import NamedTuple, Optional
 
 from ups.association import associated
 from ups.faults import Refused
 from ups.finishing import canceled, end_step
-from ups.stores import TRIES, copied
+from ups.stores import copied, tried
 from ups.tables import is_for_people, table
 from ups.terms import PULL, STATES, is_done, told
 
@@ -46,18 +45,18 @@ def claims_in(path: str) -> list[Claim]:
     return list(found.values())
 
 
+def claims_once(store: str) -> list[Claim]:
+    """Returns the claims in a copy of a store. Raises Refused if it can't be read."""
+    with copied(store) as copy:
+        try:
+            return claims_in(copy)
+        except sqlite3.Error as fault:
+            raise Refused(f"{store} can't be read: {fault}") from None
+
+
 def claims_of(store: str) -> list[Claim]:
-    """Returns the claims in a store, of which a server may be the only reader, by a copy of its files. One that is copied while the
-    server writes may not be readable, and is copied again; that a claim still holds says the server."""
-    fault: Optional[Exception] = None
-    for attempt in range(TRIES):
-        time.sleep(attempt / 5)
-        with copied(store) as copy:
-            try:
-                return claims_in(copy)
-            except sqlite3.Error as it:
-                fault = it
-    raise Refused(f"{store} can't be read: {fault}")
+    """Returns the claims in a store, of which a server may be the only reader; that a claim still holds says the server."""
+    return tried(lambda: claims_once(store))
 
 
 def cancel_claim(asked: argparse.Namespace, claim: Claim) -> int:

@@ -10,13 +10,14 @@ import shutil
 import subprocess
 import tempfile
 import time
-from collections.abc import Iterator
-from typing import NamedTuple, Optional
+from collections.abc import Callable, Iterator
+from typing import NamedTuple, Optional, TypeVar
 
 from ups.faults import Refused
 
 STORE = "/var/lib/upsd/upsd.db"  # that of the package
 TRIES = 5  # copies of a store that a server writes meanwhile
+T = TypeVar("T")
 ESCAPED = re.compile(r"%([0-9A-Fa-f]{2})")
 
 
@@ -53,13 +54,18 @@ def told_once(program: str, store: str, at: Optional[int]) -> Told:
 
 
 def requests_of(program: str, store: str, at: Optional[int] = None) -> Told:
-    """Returns the requests of a store, or the first of them, by a copy of its files: by another one, if the server wrote meanwhile."""
+    """Returns the requests of a store, or the first of them, by a copy of its files."""
+    return tried(lambda: told_once(program, store, at))
+
+
+def tried(read: Callable[[], T]) -> T:
+    """Reads a copy of a store, and another one where it can't be read, since the server may have written meanwhile."""
     for attempt in range(TRIES - 1):
         try:
-            return told_once(program, store, at)
+            return read()
         except Refused:
             time.sleep((attempt + 1) / 5)
-    return told_once(program, store, at)
+    return read()
 
 
 def unescaped(word: str) -> str:
